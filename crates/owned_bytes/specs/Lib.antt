@@ -1,0 +1,6 @@
+pub mod Outside
+pub mod Front
+pub mod Reader
+pub mod Keys
+pub mod Computes
+pub mod formers
