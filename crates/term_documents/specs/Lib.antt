@@ -1,0 +1,6 @@
+pub mod Documents
+pub mod Postings
+pub mod Satisfies
+pub mod Meaning
+pub mod Expressions
+pub mod Law

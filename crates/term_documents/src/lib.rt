@@ -1,0 +1,12 @@
+//! Documents, expressions over them, and what a printed expression means.
+#![tactic(auto)]
+
+mod documents;
+mod expr;
+mod faults;
+mod law;
+
+pub use documents::{Doc, Pair, Pairs};
+pub use expr::{Bound, Expr, expr_depth};
+pub use faults::{Fault, PlacedFault, are_valid, documents_size, first_fault};
+pub use law::printed_means_the_same;
