@@ -147,7 +147,7 @@ split_and false b h = absurd (true≢false (sym h))
 
 -- no letters and then a space: a blank in a field has a backslash in front
 pub no_word : (ps cs t : List ℕ) → Letters ps → are_plain_characters cs ≡ true → (tag ps >> some_spaces) (escapes cs ++ colon ∷ t) ≡ Failed
-unfolding tag one are_plain_characters
+unfolding tag one
 no_word [] [] t letters plain = rw (no_space_at_colon t)
 no_word [] (c ∷ cs) t letters plain =
     let here = (split_and (is_plain_character c) (are_plain_characters cs) plain).0 in

@@ -11,3 +11,4 @@ pub mod DeepTrees
 pub mod PrintedLaw
 pub mod Rows
 pub mod Depths
+pub mod Digits

@@ -47,11 +47,11 @@ unfolding is_plain is_plain_field
 minus_field = refl
 
 tab_field : is_plain (Exists (codes "f\tg")) ≡ false
-unfolding is_plain is_plain_field are_plain_characters
+unfolding is_plain is_plain_field
 tab_field = refl
 
 NOT_field : is_plain (Exists (codes "NOT")) ≡ true
-unfolding is_plain is_plain_field are_plain_characters
+unfolding is_plain is_plain_field
 NOT_field = refl
 
 star_bound : is_plain_word (codes "*") ≡ false

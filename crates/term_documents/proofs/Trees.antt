@@ -123,7 +123,7 @@ begins_piece c other plain =
     ] in by (is_special c) refl
 
 begins_field : (field body : List ℕ) → is_plain_field field ≡ true → Begins (printed_field field ++ body)
-unfolding is_plain_field are_plain_characters
+unfolding is_plain_field
 begins_field [] body plain = absurd (true≢false (sym plain))
 begins_field (c ∷ cs) body plain =
     let parts = split_and (not (c == minus)) (are_plain_characters (c ∷ cs)) plain in

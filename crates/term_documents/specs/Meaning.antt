@@ -17,9 +17,8 @@ use Rattle.term_documents.specs.Satisfies.{is_above, is_below}
 abbrev pub is_plain_character : ℕ → Bool
 is_plain_character c = not (is_among (codes "\t\r\n") c)
 
-unfoldable pub are_plain_characters : List ℕ → Bool
-are_plain_characters [] = true
-are_plain_characters (c ∷ cs) = is_plain_character c && are_plain_characters cs
+abbrev pub are_plain_characters : List ℕ → Bool
+are_plain_characters = list_all is_plain_character
 
 -- nonempty, and its first character isn't a minus
 unfoldable pub is_plain_field : List ℕ → Bool

@@ -5,6 +5,7 @@ mod documents;
 mod expr;
 mod faults;
 mod law;
+mod plain;
 
 pub use documents::{Doc, Pair, Pairs};
 pub use expr::{Bound, Expr, expr_depth};
