@@ -122,7 +122,7 @@ digits_front : (d : ℕ) (ds : List ℕ) (e : ℕ) (t : List ℕ) → is_ascii_d
 unfolding digits one
 digits_front d ds e t is h =
     let others : joined digit (ds ++ e ∷ t) ≡ Found (encode_utf8_all (front is_ascii_digit ds)) (skip is_ascii_digit ds ++ e ∷ t) =
-      front_read is_ascii_digit (length (ds ++ e ∷ t)) ds e t h (enough ds (e ∷ t)) in
+    front_read is_ascii_digit (length (ds ++ e ∷ t)) ds e t h (enough ds (e ∷ t)) in
     rw (is, others)
 
 fraction_bytes : (cs : List ℕ) (whole : List ℕ) → is_fraction cs ≡ true → negative_text whole (behind_dot cs) ≡ minus ∷ (whole ++ encode_utf8_all cs)
@@ -138,8 +138,8 @@ number_read d ds e t is rest_is no_digit no_dot =
     let whole : List ℕ = encode_utf8 d ++ encode_utf8_all (front is_ascii_digit ds) in
     let rest : List ℕ = skip is_ascii_digit ds in
     let bytes : minus ∷ (whole ++ encode_utf8_all rest) ≡ encode_utf8_all (minus ∷ d ∷ ds) =
-      ap (λ x. minus ∷ x) (append_assoc (encode_utf8 d) (encode_utf8_all (front is_ascii_digit ds)) (encode_utf8_all rest) ∙ ap (λ x. encode_utf8 d ++ x) (front_back is_ascii_digit ds))
-      ∙ ap (λ x. x ++ (encode_utf8 d ++ encode_utf8_all ds)) (sym minus_bytes) in
+    ap (λ x. minus ∷ x) (append_assoc (encode_utf8 d) (encode_utf8_all (front is_ascii_digit ds)) (encode_utf8_all rest) ∙ ap (λ x. encode_utf8 d ++ x) (front_back is_ascii_digit ds))
+    ∙ ap (λ x. x ++ (encode_utf8 d ++ encode_utf8_all ds)) (sym minus_bytes) in
     number_step d (ds ++ e ∷ t) (rest ++ e ∷ t) (e ∷ t) whole (behind_dot rest) (digits_front d ds e t is no_digit) (fraction_read rest e t rest_is no_digit no_dot)
     ∙ ap (λ x. Found x (e ∷ t)) (fraction_bytes rest whole rest_is ∙ bytes)
 
@@ -193,13 +193,13 @@ bound_read c cs e t plain after ends =
         → bound (c ∷ (cs ++ e ∷ t)) ≡ Found (encode_utf8_all (c ∷ cs)) (e ∷ t)
     behind_minus [] h after plain = word_read c [] e t plain ends (ap (λ x. negative_number (x ∷ e ∷ t)) (eqb-true c minus h) ∙ no_digits e t ends.1)
     behind_minus (d ∷ ds) h after plain =
-      let two : (b : Bool) → is_ascii_digit d ≡ b → bound (c ∷ d ∷ (ds ++ e ∷ t)) ≡ Found (encode_utf8_all (c ∷ d ∷ ds)) (e ∷ t) =
-      λ b. elim b as (λ v. is_ascii_digit d ≡ v → bound (c ∷ d ∷ (ds ++ e ∷ t)) ≡ Found (encode_utf8_all (c ∷ d ∷ ds)) (e ∷ t)) [
-        | true ↦ λ k. bound_of_number (c ∷ d ∷ (ds ++ e ∷ t)) (encode_utf8_all (c ∷ d ∷ ds)) (e ∷ t)
-            (ap (λ x. negative_number (x ∷ d ∷ (ds ++ e ∷ t))) (eqb-true c minus h) ∙ number_read d ds e t k (plain_number c d ds h k after) ends.1 ends.2
-             ∙ ap (λ x. Found (encode_utf8_all (x ∷ d ∷ ds)) (e ∷ t)) (sym (eqb-true c minus h)))
-        | false ↦ λ k. word_read c (d ∷ ds) e t plain ends (ap (λ x. negative_number (x ∷ d ∷ (ds ++ e ∷ t))) (eqb-true c minus h) ∙ no_digits d (ds ++ e ∷ t) k)
-      ] in two (is_ascii_digit d) refl
+        let two : (b : Bool) → is_ascii_digit d ≡ b → bound (c ∷ d ∷ (ds ++ e ∷ t)) ≡ Found (encode_utf8_all (c ∷ d ∷ ds)) (e ∷ t) =
+        λ b. elim b as (λ v. is_ascii_digit d ≡ v → bound (c ∷ d ∷ (ds ++ e ∷ t)) ≡ Found (encode_utf8_all (c ∷ d ∷ ds)) (e ∷ t)) [
+          | true ↦ λ k. bound_of_number (c ∷ d ∷ (ds ++ e ∷ t)) (encode_utf8_all (c ∷ d ∷ ds)) (e ∷ t)
+              (ap (λ x. negative_number (x ∷ d ∷ (ds ++ e ∷ t))) (eqb-true c minus h) ∙ number_read d ds e t k (plain_number c d ds h k after) ends.1 ends.2
+              ∙ ap (λ x. Found (encode_utf8_all (x ∷ d ∷ ds)) (e ∷ t)) (sym (eqb-true c minus h)))
+          | false ↦ λ k. word_read c (d ∷ ds) e t plain ends (ap (λ x. negative_number (x ∷ d ∷ (ds ++ e ∷ t))) (eqb-true c minus h) ∙ no_digits d (ds ++ e ∷ t) k)
+        ] in two (is_ascii_digit d) refl
 
 -- ---- a word that isn't a star
 
@@ -338,10 +338,10 @@ no_space c is =
   where
     other : (x : ℕ) → is_bound_character x ≡ false → c == x ≡ false
     other x is_not =
-      let by : (b : Bool) → c == x ≡ b → c == x ≡ false = λ b. elim b as (λ v. c == x ≡ v → c == x ≡ false) [
-        | true ↦ λ e. absurd (true≢false (sym is ∙ ap is_bound_character (eqb-true c x e) ∙ is_not))
-        | false ↦ λ e. e
-      ] in by (c == x) refl
+        let by : (b : Bool) → c == x ≡ b → c == x ≡ false = λ b. elim b as (λ v. c == x ≡ v → c == x ≡ false) [
+          | true ↦ λ e. absurd (true≢false (sym is ∙ ap is_bound_character (eqb-true c x e) ∙ is_not))
+          | false ↦ λ e. e
+        ] in by (c == x) refl
 
 text_unspaced : (text t : List ℕ) → is_plain_word text ≡ true → skip is_space (text ++ t) ≡ text ++ t
 unfolding is_plain_word skip
@@ -415,12 +415,12 @@ range_again lower upper tail plain_lower plain_upper =
     let y : List ℕ = word_of upper ++ closes upper ∷ tail in
     let x : List ℕ = word_of lower ++ 32 ∷ 84 ∷ 79 ∷ 32 ∷ y in
     let whole : (printed_lower lower ++ (codes " TO " ++ printed_upper upper)) ++ tail ≡ opens lower ∷ x =
-      append_assoc (printed_lower lower) (codes " TO " ++ printed_upper upper) tail
-      ∙ ap (λ t. printed_lower lower ++ (32 ∷ 84 ∷ 79 ∷ 32 ∷ t)) (upper_text upper tail) ∙ lower_text lower (32 ∷ 84 ∷ 79 ∷ 32 ∷ y) in
+    append_assoc (printed_lower lower) (codes " TO " ++ printed_upper upper) tail
+    ∙ ap (λ t. printed_lower lower ++ (32 ∷ 84 ∷ 79 ∷ 32 ∷ t)) (upper_text upper tail) ∙ lower_text lower (32 ∷ 84 ∷ 79 ∷ 32 ∷ y) in
     ap bare_leaf whole
     ∙ only_range lower x tail _ (full_read (opens lower) (closes upper) tail (is_inclusive lower) (is_inclusive upper) (encode_utf8_all (word_of lower)) (encode_utf8_all (word_of upper)) x y
-        (opened lower x) (word_unspaced lower (32 ∷ 84 ∷ 79 ∷ 32 ∷ y) plain_lower) (word_again lower 32 (84 ∷ 79 ∷ 32 ∷ y) plain_lower blank_ends)
-        (word_unspaced upper (closes upper ∷ tail) plain_upper) (word_again upper (closes upper) tail plain_upper (closing_ends upper)) (closing_unspaced upper tail) (closed upper tail))
+    (opened lower x) (word_unspaced lower (32 ∷ 84 ∷ 79 ∷ 32 ∷ y) plain_lower) (word_again lower 32 (84 ∷ 79 ∷ 32 ∷ y) plain_lower blank_ends)
+    (word_unspaced upper (closes upper ∷ tail) plain_upper) (word_again upper (closes upper) tail plain_upper (closing_ends upper)) (closing_unspaced upper tail) (closed upper tail))
     ∙ ap (λ b. Found (leaf.Range None b (bounded (is_inclusive upper) (encode_utf8_all (word_of upper)))) tail) (bounded_word lower plain_lower)
     ∙ ap (λ b. Found (leaf.Range None (bytes_of lower) b) tail) (bounded_word upper plain_upper)
 

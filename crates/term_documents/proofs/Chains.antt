@@ -25,8 +25,13 @@ pub record Begins (text : List ℕ) : Type 0 where
 
 pub begins_append : (a b : List ℕ) → Begins a → Begins (a ++ b)
 begins_append a b begun = record {
-  head = begun.head; more = begun.more ++ b; is = ap (λ t. t ++ b) begun.is;
-  not_space = begun.not_space; not_minus = begun.not_minus; not_plus = begun.not_plus }
+  head = begun.head;
+  more = begun.more ++ b;
+  is = ap (λ t. t ++ b) begun.is;
+  not_space = begun.not_space;
+  not_minus = begun.not_minus;
+  not_plus = begun.not_plus;
+}
 
 skip_begun : (c : ℕ) (cs : List ℕ) → is_space c ≡ false → skip is_space (c ∷ cs) ≡ c ∷ cs
 unfolding skip
@@ -110,13 +115,16 @@ item_read leaf before text tail t reads unmarked unboosted = rw (unmarked, reads
 pub leaf_starts : (leaf : Reader UserInputAst) (before : Option Operand) (u tail : List ℕ) (t : UserInputAst) (reached : Reached)
     → Begins u → leaf (u ++ tail) ≡ Found t tail → Follows leaf tail reached → Starts leaf before (u ++ tail) (with_first (item before t) reached)
 leaf_starts leaf before u tail t reached begun reads follows = record {
-  first = item before t; left = tail; more = reached;
+  first = item before t;
+  left = tail;
+  more = reached;
   reads = item_read leaf before (u ++ tail) tail t reads (unmarked_begun (u ++ tail) (begins_append u tail begun)) (no_boost tail follows.ends);
   shorter =
-    (let one_more : length (u ++ tail) ≡ suc (length (begun.more ++ tail)) = ap (λ t. length (t ++ tail)) begun.is in
-    let parts : length (begun.more ++ tail) ≡ length begun.more + length tail = length-append begun.more tail in omega arith);
+      (let one_more : length (u ++ tail) ≡ suc (length (begun.more ++ tail)) = ap (λ t. length (t ++ tail)) begun.is in
+      let parts : length (begun.more ++ tail) ≡ length begun.more + length tail = length-append begun.more tail in omega arith);
   all_is = refl;
-  follows = follows }
+  follows = follows;
+}
 
 abbrev pub joint : Operand → List ℕ → List ℕ
 joint Or text = 79 ∷ 82 ∷ 32 ∷ text
@@ -167,10 +175,12 @@ joint_follows leaf by text reached begun starts =
       ends = joint_ends by text;
       repeats = λ m h. turn m (moved (joint_unspaced by text) h) next;
       goes_on = joint_items leaf by text (skip is_space starts.left) starts.first starts.more next (starts.follows.repeats (length (skip is_space starts.left)) (omega arith))
-        ∙ ap outcome (sym starts.all_is) }
+          ∙ ap outcome (sym starts.all_is);
+    }
   where
     moved : {a b : List ℕ} {m : ℕ} → a ≡ b → length a ≤ m → length b ≤ m
     moved {a = a} {b = b} {m = m} e h = rw (← e) h
+
     turn : (m : ℕ) → length (joint by text) ≤ m → next_item leaf (joint by text) ≡ Found starts.first (skip is_space starts.left)
         → repeated_up_to m (next_item leaf) (skip is_space (32 ∷ joint by text)) ≡ outcome reached
     turn zero h next = (let long = joint_longer by text in absurd (omega arith))
@@ -222,7 +232,8 @@ pub end_follows : (leaf : Reader UserInputAst) (text : List ℕ) → AtEnd text 
 end_follows leaf text h no_leaf = record {
   ends = h.4;
   repeats = λ m k. ap (λ t. repeated_up_to m (next_item leaf) t) h.1 ∙ none_repeated leaf m text (no_next leaf text h no_leaf);
-  goes_on = none_go_on leaf text h.3 }
+  goes_on = none_go_on leaf text h.3;
+}
 
 abbrev pub tree_outcome : Reached → Outcome UserInputAst
 tree_outcome (ended found rest) = Found (aggregate found) (skip is_space rest)
@@ -271,7 +282,8 @@ joint_deep leaf by text begun (inl deep) =
     record {
       ends = joint_ends by text;
       repeats = λ m h. ap (λ t. repeated_up_to m (next_item leaf) t) (joint_unspaced by text) ∙ deep_repeats leaf by m text (moved (joint_unspaced by text) h) next;
-      goes_on = deep_goes_on leaf by text next }
+      goes_on = deep_goes_on leaf by text next;
+    }
   where
     moved : {a b : List ℕ} {m : ℕ} → a ≡ b → length a ≤ m → length b ≤ m
     moved {a = a} {b = b} {m = m} e h = rw (← e) h

@@ -85,7 +85,7 @@ printed_of_characters (Range f l u) h =
     let parts = split_and (scalars f) (bound_of_characters l && bound_of_characters u) h in
     let bounds = split_and (bound_of_characters l) (bound_of_characters u) parts.1 in
     both (printed_field f) (printed_lower l ++ (codes " TO " ++ printed_upper u)) (of_field f parts.0)
-      (both (printed_lower l) (codes " TO " ++ printed_upper u) (of_lower l bounds.0) (of_upper u bounds.1))
+    (both (printed_lower l) (codes " TO " ++ printed_upper u) (of_lower l bounds.0) (of_upper u bounds.1))
 printed_of_characters (Set f ts) h =
     let parts = split_and (scalars f) (all_of_characters ts) h in
     both (printed_field f) (codes "IN [" ++ (printed_elements ts ++ codes "]")) (of_field f parts.0) (both (printed_elements ts) (codes "]") (of_elements ts parts.1) refl)

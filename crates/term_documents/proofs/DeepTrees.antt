@@ -37,7 +37,7 @@ parentheses_deep n text begun deep zero tail h ends = leaf_is 0 (in_parentheses 
 parentheses_deep n text begun deep (suc levels) tail h ends =
     leaf_is (suc levels) (in_parentheses text ++ tail)
     ∙ parenthesized_deep (enclosed_tree (suc levels)) (enclosed_leaf (suc levels)) ((text ++ closing ∷ []) ++ tail)
-      (ap (ast levels) (append_assoc text (closing ∷ []) tail) ∙ tree_deep (leaf levels) (text ++ closing ∷ tail) (begins_append text (closing ∷ tail) begun) (deep levels None (closing ∷ tail) (omega arith) (at_closing tail).4))
+    (ap (ast levels) (append_assoc text (closing ∷ []) tail) ∙ tree_deep (leaf levels) (text ++ closing ∷ tail) (begins_append text (closing ∷ tail) begun) (deep levels None (closing ∷ tail) (omega arith) (at_closing tail).4))
 
 not_deep : (n : ℕ) (text : List ℕ) → Begins text → DeepAlone n text → DeepAlone (suc n) (codes "NOT " ++ text)
 unfolding enclosed_leaf
@@ -52,7 +52,7 @@ alone_deep n text begun deep levels before tail h ends = leaf_deep (leaf levels)
 
 both_deep : (by : Operand) (left right joint_text : List ℕ) (first : Option Operand → List Item) (m n : ℕ) → Begins right → ((text : List ℕ) → (joint_text ++ text) ≡ 32 ∷ joint by text)
     → ((levels : ℕ) (before : Option Operand) (tail : List ℕ) (reached : Reached) → m ≤ levels → Follows (leaf levels) tail reached
-      → Starts (leaf levels) before (left ++ tail) (after (first before) reached))
+    → Starts (leaf levels) before (left ++ tail) (after (first before) reached))
     → DeepChained m left → DeepChained n right → DeepChained (max m n) (left ++ (joint_text ++ right))
 both_deep by left right joint_text first m n begun is_joint reads_left deep_left deep_right levels before tail h ends =
     subst (λ t. StartsDeep (leaf levels) before t) (both_text by left right joint_text tail is_joint) (either (cases_lt levels m))
@@ -60,10 +60,10 @@ both_deep by left right joint_text first m n begun is_joint reads_left deep_left
     either : (levels < m) ⊎ (m ≤ levels) → StartsDeep (leaf levels) before (left ++ (32 ∷ joint by (right ++ tail)))
     either (inl less) = deep_left levels before (32 ∷ joint by (right ++ tail)) less (joint_ends by (right ++ tail))
     either (inr more) =
-      let follows : Follows (leaf levels) (32 ∷ joint by (right ++ tail)) too_deep =
+        let follows : Follows (leaf levels) (32 ∷ joint by (right ++ tail)) too_deep =
         joint_deep (leaf levels) by (right ++ tail) (begins_append right tail begun) (deep_right levels (Some by) tail (omega arith) ends) in
-      let text : List ℕ = left ++ (32 ∷ joint by (right ++ tail)) in
-      inr (starts_moved levels before text text (after (first before) too_deep) too_deep refl (after-too_deep (first before)) (reads_left levels before (32 ∷ joint by (right ++ tail)) too_deep more follows))
+        let text : List ℕ = left ++ (32 ∷ joint by (right ++ tail)) in
+        inr (starts_moved levels before text text (after (first before) too_deep) too_deep refl (after-too_deep (first before)) (reads_left levels before (32 ∷ joint by (right ++ tail)) too_deep more follows))
 
 record DeepRead (e : Expression) : Type 0 where
   alone : DeepAlone (depth_under_not e (depth e)) (under_not e (printed e))
@@ -104,8 +104,8 @@ deep_read (And a b) plain =
     let right : Read b = read b parts.1 in
     let whole : Read (And a b) = read (And a b) plain in
     let chained : DeepChained (depth (And a b)) (printed (And a b)) =
-      both_deep operand.And (under_and a (printed a)) (under_and b (printed b)) (codes " AND ") (λ before. conjuncts before (conjunction a (disjunction a))) (depth_under_and a (depth a)) (depth_under_and b (depth b))
-        (begins_under_and b right.begins) (λ text. refl) (chained_under_and a left) (deep_under_and a (deep_read a parts.0)) (deep_under_and b (deep_read b parts.1)) in
+    both_deep operand.And (under_and a (printed a)) (under_and b (printed b)) (codes " AND ") (λ before. conjuncts before (conjunction a (disjunction a))) (depth_under_and a (depth a)) (depth_under_and b (depth b))
+    (begins_under_and b right.begins) (λ text. refl) (chained_under_and a left) (deep_under_and a (deep_read a parts.0)) (deep_under_and b (deep_read b parts.1)) in
     record { alone = parentheses_deep (depth (And a b)) (printed (And a b)) whole.begins chained; chained = chained }
 deep_read (Or a b) plain =
     let parts = split_and (is_plain a) (is_plain b) plain in
@@ -113,8 +113,8 @@ deep_read (Or a b) plain =
     let right : Read b = read b parts.1 in
     let whole : Read (Or a b) = read (Or a b) plain in
     let chained : DeepChained (depth (Or a b)) (printed (Or a b)) =
-      both_deep operand.Or (printed a) (printed b) (codes " OR ") (λ before. items before (disjunction a)) (depth a) (depth b) right.begins (λ text. refl) left.chained
-        (deep_read a parts.0).chained (deep_read b parts.1).chained in
+    both_deep operand.Or (printed a) (printed b) (codes " OR ") (λ before. items before (disjunction a)) (depth a) (depth b) right.begins (λ text. refl) left.chained
+    (deep_read a parts.0).chained (deep_read b parts.1).chained in
     record { alone = parentheses_deep (depth (Or a b)) (printed (Or a b)) whole.begins chained; chained = chained }
 
 query_deep : (text : List ℕ) → skip is_space text ≡ text → ast max_levels text ≡ Deep → query text ≡ Deep
@@ -125,5 +125,5 @@ pub query_too_deep : (e : Expression) → is_plain e ≡ true → max_levels < d
 query_too_deep e plain h =
     let reads : Read e = read e plain in
     query_deep (printed e) (unspaced_begun (printed e) reads.begins)
-      (tree_deep (leaf max_levels) (printed e) reads.begins
-        (subst (λ t. StartsDeep (leaf max_levels) None t) (append-nil (printed e)) ((deep_read e plain).chained max_levels None [] h tt)))
+    (tree_deep (leaf max_levels) (printed e) reads.begins
+    (subst (λ t. StartsDeep (leaf max_levels) None t) (append-nil (printed e)) ((deep_read e plain).chained max_levels None [] h tt)))

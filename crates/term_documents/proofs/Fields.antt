@@ -156,10 +156,10 @@ no_word (p ∷ ps) [] t letters plain = rw letters.1
 no_word (p ∷ ps) (c ∷ cs) t letters plain =
     let again : (tag ps >> some_spaces) (escapes cs ++ colon ∷ t) ≡ Failed = no_word ps cs t letters.2 (split_and (is_plain_character c) (are_plain_characters cs) plain).1 in
     rw (append_assoc (escaped (is_special c) c) (escapes cs) (colon ∷ t))
-      (let by : (b : Bool) → (tag (p ∷ ps) >> some_spaces) (escaped b c ++ (escapes cs ++ colon ∷ t)) ≡ Failed =
-      λ b. elim b as (λ v. (tag (p ∷ ps) >> some_spaces) (escaped v c ++ (escapes cs ++ colon ∷ t)) ≡ Failed) [
-        | true ↦ rw letters.0
-        | false ↦ (let same : (w : Bool) → c == p ≡ w → (tag (p ∷ ps) >> some_spaces) (c ∷ (escapes cs ++ colon ∷ t)) ≡ Failed =
-            λ w. elim w as (λ v. c == p ≡ v → (tag (p ∷ ps) >> some_spaces) (c ∷ (escapes cs ++ colon ∷ t)) ≡ Failed) [ true ↦ λ e. rw e again | false ↦ λ e. rw e ]
-            in same (c == p) refl)
-      ] in by (is_special c))
+    (let by : (b : Bool) → (tag (p ∷ ps) >> some_spaces) (escaped b c ++ (escapes cs ++ colon ∷ t)) ≡ Failed =
+    λ b. elim b as (λ v. (tag (p ∷ ps) >> some_spaces) (escaped v c ++ (escapes cs ++ colon ∷ t)) ≡ Failed) [
+      | true ↦ rw letters.0
+      | false ↦ (let same : (w : Bool) → c == p ≡ w → (tag (p ∷ ps) >> some_spaces) (c ∷ (escapes cs ++ colon ∷ t)) ≡ Failed =
+          λ w. elim w as (λ v. c == p ≡ v → (tag (p ∷ ps) >> some_spaces) (c ∷ (escapes cs ++ colon ∷ t)) ≡ Failed) [ true ↦ λ e. rw e again | false ↦ λ e. rw e ]
+          in same (c == p) refl)
+    ] in by (is_special c))

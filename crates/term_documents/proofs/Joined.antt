@@ -93,18 +93,18 @@ more_disjuncts_grouped ((t, []) ∷ []) = refl
 more_disjuncts_grouped ((t, []) ∷ d ∷ ds) = ap (grouped_by (Some Or) (item (Some Or) t) (Some Or)) (more_disjuncts_grouped (d ∷ ds))
 more_disjuncts_grouped ((t, u ∷ us) ∷ cs) =
     let later : grouped (more_conjuncts (u ∷ us) ++ more_disjuncts cs) ≡ record { joining = must u ∷ map must us; groups = map group cs } =
-      conjuncts_grouped (u ∷ us) (more_disjuncts cs)
-      ∙ ap (λ (g : Grouped). let out : Grouped = record { joining = map must (u ∷ us) ++ g.joining; groups = g.groups } in out) (more_disjuncts_grouped cs)
-      ∙ ap (λ (js : List Pair). let out : Grouped = record { joining = js; groups = map group cs } in out) (append-nil (map must (u ∷ us))) in
+    conjuncts_grouped (u ∷ us) (more_disjuncts cs)
+    ∙ ap (λ (g : Grouped). let out : Grouped = record { joining = map must (u ∷ us) ++ g.joining; groups = g.groups } in out) (more_disjuncts_grouped cs)
+    ∙ ap (λ (js : List Pair). let out : Grouped = record { joining = js; groups = map group cs } in out) (append-nil (map must (u ∷ us))) in
     ap (grouped_by (Some Or) (item (Some Or) t) (Some And)) later
 
 conjunction_grouped : (u : UserInputAst) (us : List UserInputAst) (cs : List Conjunction)
     → grouped (more_conjuncts (u ∷ us) ++ more_disjuncts cs) ≡ record { joining = must u ∷ map must us; groups = map group cs }
 unfolding grouped
 conjunction_grouped u us cs =
-      conjuncts_grouped (u ∷ us) (more_disjuncts cs)
-      ∙ ap (λ (g : Grouped). let out : Grouped = record { joining = map must (u ∷ us) ++ g.joining; groups = g.groups } in out) (more_disjuncts_grouped cs)
-      ∙ ap (λ (js : List Pair). let out : Grouped = record { joining = js; groups = map group cs } in out) (append-nil (map must (u ∷ us)))
+    conjuncts_grouped (u ∷ us) (more_disjuncts cs)
+    ∙ ap (λ (g : Grouped). let out : Grouped = record { joining = map must (u ∷ us) ++ g.joining; groups = g.groups } in out) (more_disjuncts_grouped cs)
+    ∙ ap (λ (js : List Pair). let out : Grouped = record { joining = js; groups = map group cs } in out) (append-nil (map must (u ∷ us)))
 
 pairs_of_groups : (cs : List Conjunction) → map pair_of_group (map group cs) ≡ map disjunct cs
 unfolding pair_of_group

@@ -22,7 +22,7 @@ quoted_read : (text tail : List ℕ) → quoted double_quote (double_quote ∷ (
 unfolding quoted one
 quoted_read text tail =
     let again : joined (quoted_piece double_quote) (inside_quotes text ++ double_quote ∷ tail) ≡ Found (encode_utf8_all text) (double_quote ∷ tail) =
-      quoted_again (length (inside_quotes text ++ double_quote ∷ tail)) text tail (escapes_longer needs_backslash text (double_quote ∷ tail)) in
+    quoted_again (length (inside_quotes text ++ double_quote ∷ tail)) text tail (escapes_longer needs_backslash text (double_quote ∷ tail)) in
     rw again
 
 unquoted : (t : List ℕ) → quoted 39 (double_quote ∷ t) ≡ Failed
@@ -121,7 +121,7 @@ unfolding elements
 all_elements_again [] rest = rw (no_word_at_closing rest)
 all_elements_again (text ∷ texts) rest =
     let others : repeated_up_to (length (more_elements texts ++ 93 ∷ rest)) next_element (more_elements texts ++ 93 ∷ rest) ≡ Found (map encode_utf8_all texts) (93 ∷ rest) =
-      elements_again (length (more_elements texts ++ 93 ∷ rest)) texts rest (elements_longer texts (93 ∷ rest)) in
+    elements_again (length (more_elements texts ++ 93 ∷ rest)) texts rest (elements_longer texts (93 ∷ rest)) in
     rw (append_assoc (printed_text text) (more_elements texts) (93 ∷ rest), text_read text (more_elements texts ++ 93 ∷ rest), others)
 
 elements_unspaced : (texts : List (List ℕ)) (rest : List ℕ) → skip is_space (printed_elements texts ++ 93 ∷ rest) ≡ printed_elements texts ++ 93 ∷ rest
@@ -174,10 +174,10 @@ field_leaf inner_tree inner_leaf (c ∷ cs) body tail found plain unspaced by_le
     let parts = split_and (not (c == minus)) (are_plain_characters (c ∷ cs)) plain in
     let whole = append_assoc (escaped (is_special c) c) (escapes cs) (colon ∷ body) in
     enclosing_read inner_tree inner_leaf (escapes (c ∷ cs) ++ colon ∷ body) tail (leaf_under_field (encode_utf8_all (c ∷ cs)) found)
-      (ap (parenthesized inner_tree) whole ∙ no_parentheses inner_tree c (escapes cs ++ colon ∷ body))
-      (ap star_alone whole ∙ no_star c (escapes cs ++ colon ∷ body))
-      (no_negation inner_leaf (c ∷ cs) body parts.1)
-      (leaf_read (encode_utf8_all (c ∷ cs)) body tail found (escapes (c ∷ cs) ++ colon ∷ body) (field_again c cs body (opposite (c == minus) parts.0) unspaced) by_leaf)
+    (ap (parenthesized inner_tree) whole ∙ no_parentheses inner_tree c (escapes cs ++ colon ∷ body))
+    (ap star_alone whole ∙ no_star c (escapes cs ++ colon ∷ body))
+    (no_negation inner_leaf (c ∷ cs) body parts.1)
+    (leaf_read (encode_utf8_all (c ∷ cs)) body tail found (escapes (c ∷ cs) ++ colon ∷ body) (field_again c cs body (opposite (c == minus) parts.0) unspaced) by_leaf)
 
 -- ---- parentheses and NOT
 

@@ -12,3 +12,5 @@ pub mod PrintedLaw
 pub mod Rows
 pub mod Depths
 pub mod Digits
+pub mod Pushed
+pub mod Sizes

@@ -4,7 +4,7 @@ use Rattle.std.specs.Prelude.{codes}
 use Rattle.query_tree.specs.Characters.{is_special, is_bound_character}
 use Rattle.query_tree.specs.Reader.{skip}
 use Rattle.query_tree.specs.Printing.{Expression, Term, Prefix, Range, Set, Exists, Not, And, Or, Exclusive, Unbounded, printed, depth}
-use Rattle.term_documents.specs.Meaning.{is_plain, is_plain_field, are_plain_characters, is_plain_word, is_plain_after, is_star, is_fraction, are_digits}
+use Rattle.term_documents.specs.Meaning.{is_plain, is_plain_field, is_plain_word, is_plain_after, is_star, is_fraction, are_digits}
 
 e : Expression
 unfolding printed

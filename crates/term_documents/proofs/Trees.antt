@@ -70,8 +70,8 @@ unfolding enclosed_tree
 in_parentheses_again levels text tail d begun starts =
     let whole : in_parentheses text ++ tail ≡ opening ∷ (text ++ closing ∷ tail) = ap (λ t. opening ∷ t) (append_assoc text (closing ∷ []) tail) in
     let reads : ast levels (text ++ closing ∷ tail) ≡ Found (joined d) (closing ∷ tail) =
-      tree_again (leaf levels) (text ++ closing ∷ tail) (ended (items None d) (closing ∷ tail)) (begins_append text (closing ∷ tail) begun) starts
-      ∙ ap (λ t. Found t (skip is_space (closing ∷ tail))) (joined_is d) ∙ ap (Found (joined d)) (at_closing tail).1 in
+    tree_again (leaf levels) (text ++ closing ∷ tail) (ended (items None d) (closing ∷ tail)) (begins_append text (closing ∷ tail) begun) starts
+    ∙ ap (λ t. Found t (skip is_space (closing ∷ tail))) (joined_is d) ∙ ap (Found (joined d)) (at_closing tail).1 in
     ap (leaf (suc levels)) whole ∙ leaf_is (suc levels) (opening ∷ (text ++ closing ∷ tail))
     ∙ parenthesized_again (enclosed_tree (suc levels)) (enclosed_leaf (suc levels)) text tail (joined d) reads
 
@@ -84,14 +84,14 @@ no_leaf_end levels = leaf_is levels [] ∙ no_leaf_at_end (enclosed_tree levels)
 -- what is read with items behind it is read in parentheses
 alone_again : (levels n : ℕ) (text tail : List ℕ) (d : Disjunction) → suc n ≤ levels → Begins text
     → ((levels : ℕ) (before : Option Operand) (tail : List ℕ) (reached : Reached) → n ≤ levels → Follows (leaf levels) tail reached
-      → Starts (leaf levels) before (text ++ tail) (after (items before d) reached))
+    → Starts (leaf levels) before (text ++ tail) (after (items before d) reached))
     → leaf levels (in_parentheses text ++ tail) ≡ Found (joined d) tail
 alone_again zero n text tail d h begun chained = absurd (omega arith)
 alone_again (suc levels) n text tail d h begun chained =
     let starts : Starts (leaf levels) None (text ++ closing ∷ tail) (after (items None d) (ended [] (closing ∷ tail))) =
-      chained levels None (closing ∷ tail) (ended [] (closing ∷ tail)) (omega arith) (end_follows (leaf levels) (closing ∷ tail) (at_closing tail) (no_leaf_closing levels tail)) in
+    chained levels None (closing ∷ tail) (ended [] (closing ∷ tail)) (omega arith) (end_follows (leaf levels) (closing ∷ tail) (at_closing tail) (no_leaf_closing levels tail)) in
     in_parentheses_again levels text tail d begun
-      (starts_moved levels None (text ++ closing ∷ tail) (text ++ closing ∷ tail) (after (items None d) (ended [] (closing ∷ tail))) (ended (items None d) (closing ∷ tail)) refl (after-ended (items None d) (closing ∷ tail)) starts)
+    (starts_moved levels None (text ++ closing ∷ tail) (text ++ closing ∷ tail) (after (items None d) (ended [] (closing ∷ tail))) (ended (items None d) (closing ∷ tail)) refl (after-ended (items None d) (closing ∷ tail)) starts)
 
 -- after NOT
 negated_again : (levels : ℕ) (text tail : List ℕ) (found : UserInputAst) → Begins text → leaf levels (text ++ tail) ≡ Found found tail
@@ -129,8 +129,8 @@ begins_field (c ∷ cs) body plain =
     let parts = split_and (not (c == minus)) (are_plain_characters (c ∷ cs)) plain in
     let first = split_and (is_plain_character c) (are_plain_characters cs) parts.1 in
     begins_append (printed_field (c ∷ cs)) body
-      (begins_append (escapes (c ∷ cs)) (colon ∷ [])
-        (begins_append (escaped (is_special c) c) (escapes cs) (begins_piece c (opposite (c == minus) parts.0) first.0)))
+    (begins_append (escapes (c ∷ cs)) (colon ∷ [])
+    (begins_append (escaped (is_special c) c) (escapes cs) (begins_piece c (opposite (c == minus) parts.0) first.0)))
 
 begins_not : (text : List ℕ) → Begins (78 ∷ 79 ∷ 84 ∷ 32 ∷ text)
 unfolding is_space
@@ -171,7 +171,7 @@ prefix_alone : (field text : List ℕ) → is_plain_field field ≡ true → (le
     → leaf levels ((printed_field field ++ (printed_text text ++ codes "*")) ++ tail) ≡ Found (tree.Leaf (leaf_under_field (encode_utf8_all field) (literal (encode_utf8_all text) true))) tail
 prefix_alone field text plain levels tail h ends =
     leaf_again levels field (printed_text text ++ star ∷ []) tail (literal (encode_utf8_all text) true) plain (quote_unspaced _)
-      (ap bare_leaf (append_assoc (printed_text text) (star ∷ []) tail) ∙ prefix_again text tail)
+    (ap bare_leaf (append_assoc (printed_text text) (star ∷ []) tail) ∙ prefix_again text tail)
 
 exists_alone : (field : List ℕ) → is_plain_field field ≡ true → (levels : ℕ) (tail : List ℕ) → 0 ≤ levels → Ends tail
     → leaf levels ((printed_field field ++ codes "*") ++ tail) ≡ Found (tree.Leaf (leaf_under_field (encode_utf8_all field) leaves.All)) tail
@@ -182,13 +182,13 @@ set_alone : (field : List ℕ) (texts : List (List ℕ)) → is_plain_field fiel
     → leaf levels ((printed_field field ++ (codes "IN [" ++ (printed_elements texts ++ codes "]"))) ++ tail) ≡ Found (tree.Leaf (leaf_under_field (encode_utf8_all field) (leaves.Set None (map encode_utf8_all texts)))) tail
 set_alone field texts plain levels tail h ends =
     leaf_again levels field (codes "IN [" ++ (printed_elements texts ++ codes "]")) tail (leaves.Set None (map encode_utf8_all texts)) plain (letter_unspaced _)
-      (ap (λ t. bare_leaf (73 ∷ 78 ∷ 32 ∷ 91 ∷ t)) (append_assoc (printed_elements texts) (93 ∷ []) tail) ∙ set_again texts tail)
+    (ap (λ t. bare_leaf (73 ∷ 78 ∷ 32 ∷ 91 ∷ t)) (append_assoc (printed_elements texts) (93 ∷ []) tail) ∙ set_again texts tail)
 
 range_alone : (field : List ℕ) (lower upper : Bound) → is_plain_field field ≡ true → is_plain_bound lower ≡ true → is_plain_bound upper ≡ true → (levels : ℕ) (tail : List ℕ) → 0 ≤ levels → Ends tail
     → leaf levels ((printed_field field ++ (printed_lower lower ++ (codes " TO " ++ printed_upper upper))) ++ tail) ≡ Found (tree.Leaf (leaf_under_field (encode_utf8_all field) (leaves.Range None (bytes_of lower) (bytes_of upper)))) tail
 range_alone field lower upper plain plain_lower plain_upper levels tail h ends =
     leaf_again levels field (printed_lower lower ++ (codes " TO " ++ printed_upper upper)) tail (leaves.Range None (bytes_of lower) (bytes_of upper)) plain
-      (range_unspaced lower (codes " TO " ++ printed_upper upper) tail) (range_again lower upper tail plain_lower plain_upper)
+    (range_unspaced lower (codes " TO " ++ printed_upper upper) tail) (range_again lower upper tail plain_lower plain_upper)
 
 not_alone : (text : List ℕ) (t : UserInputAst) (n : ℕ) → Begins text
     → ((levels : ℕ) (tail : List ℕ) → n ≤ levels → Ends tail → leaf levels (text ++ tail) ≡ Found t tail)
@@ -244,19 +244,19 @@ chained_both : (by : Operand) (left right joint_text : List ℕ) (first second a
     → ((text : List ℕ) → (joint_text ++ text) ≡ 32 ∷ joint by text)
     → ((before : Option Operand) → first before ++ second (Some by) ≡ all before)
     → ((levels : ℕ) (before : Option Operand) (tail : List ℕ) (reached : Reached) → m ≤ levels → Follows (leaf levels) tail reached
-      → Starts (leaf levels) before (left ++ tail) (after (first before) reached))
+    → Starts (leaf levels) before (left ++ tail) (after (first before) reached))
     → ((levels : ℕ) (before : Option Operand) (tail : List ℕ) (reached : Reached) → n ≤ levels → Follows (leaf levels) tail reached
-      → Starts (leaf levels) before (right ++ tail) (after (second before) reached))
+    → Starts (leaf levels) before (right ++ tail) (after (second before) reached))
     → (levels : ℕ) (before : Option Operand) (tail : List ℕ) (reached : Reached) → max m n ≤ levels → Follows (leaf levels) tail reached
     → Starts (leaf levels) before ((left ++ (joint_text ++ right)) ++ tail) (after (all before) reached)
 chained_both by left right joint_text first second all m n begun is_joint whole reads_left reads_right levels before tail reached h follows =
     let right_starts : Starts (leaf levels) (Some by) (right ++ tail) (after (second (Some by)) reached) = reads_right levels (Some by) tail reached (omega arith) follows in
     let right_follows : Follows (leaf levels) (32 ∷ joint by (right ++ tail)) (after (second (Some by)) reached) =
-      joint_follows (leaf levels) by (right ++ tail) (after (second (Some by)) reached) (begins_append right tail begun) right_starts in
+    joint_follows (leaf levels) by (right ++ tail) (after (second (Some by)) reached) (begins_append right tail begun) right_starts in
     starts_moved levels before (left ++ (32 ∷ joint by (right ++ tail))) ((left ++ (joint_text ++ right)) ++ tail) (after (first before) (after (second (Some by)) reached)) (after (all before) reached)
-      (both_text by left right joint_text tail is_joint)
-      (sym (after-append (first before) (second (Some by)) reached) ∙ ap (λ is. after is reached) (whole before))
-      (reads_left levels before (32 ∷ joint by (right ++ tail)) (after (second (Some by)) reached) (omega arith) right_follows)
+    (both_text by left right joint_text tail is_joint)
+    (sym (after-append (first before) (second (Some by)) reached) ∙ ap (λ is. after is reached) (whole before))
+    (reads_left levels before (32 ∷ joint by (right ++ tail)) (after (second (Some by)) reached) (omega arith) right_follows)
 
 and_items : (a b : Conjunction) (before : Option Operand) → conjuncts before a ++ conjuncts (Some operand.And) b ≡ items before (with a b, [])
 and_items a b before = sym (append-nil (conjuncts before (with a b)) ∙ conjuncts-with before a b)
@@ -287,10 +287,10 @@ read (And a b) plain =
     let right : Read b = read b parts.1 in
     let begun : Begins (printed (And a b)) = begins_append (under_and a (printed a)) (codes " AND " ++ under_and b (printed b)) (begins_under_and a left.begins) in
     let chained : (levels : ℕ) (before : Option Operand) (tail : List ℕ) (reached : Reached) → depth (And a b) ≤ levels → Follows (leaf levels) tail reached
-        → Starts (leaf levels) before (printed (And a b) ++ tail) (after (items before (disjunction (And a b))) reached) =
-      chained_both operand.And (under_and a (printed a)) (under_and b (printed b)) (codes " AND ") (λ before. conjuncts before (conjunction a (disjunction a))) (λ before. conjuncts before (conjunction b (disjunction b)))
-        (λ before. items before (disjunction (And a b))) (depth_under_and a (depth a)) (depth_under_and b (depth b)) (begins_under_and b right.begins) (λ text. refl)
-        (and_items (conjunction a (disjunction a)) (conjunction b (disjunction b))) (chained_under_and a left) (chained_under_and b right) in
+    → Starts (leaf levels) before (printed (And a b) ++ tail) (after (items before (disjunction (And a b))) reached) =
+    chained_both operand.And (under_and a (printed a)) (under_and b (printed b)) (codes " AND ") (λ before. conjuncts before (conjunction a (disjunction a))) (λ before. conjuncts before (conjunction b (disjunction b)))
+    (λ before. items before (disjunction (And a b))) (depth_under_and a (depth a)) (depth_under_and b (depth b)) (begins_under_and b right.begins) (λ text. refl)
+    (and_items (conjunction a (disjunction a)) (conjunction b (disjunction b))) (chained_under_and a left) (chained_under_and b right) in
     record { begins = begun; alone = λ levels tail h ends. alone_again levels (depth (And a b)) (printed (And a b)) tail (disjunction (And a b)) h begun chained; chained = chained }
 read (Or a b) plain =
     let parts = split_and (is_plain a) (is_plain b) plain in
@@ -298,10 +298,10 @@ read (Or a b) plain =
     let right : Read b = read b parts.1 in
     let begun : Begins (printed (Or a b)) = begins_append (printed a) (codes " OR " ++ printed b) left.begins in
     let chained : (levels : ℕ) (before : Option Operand) (tail : List ℕ) (reached : Reached) → depth (Or a b) ≤ levels → Follows (leaf levels) tail reached
-        → Starts (leaf levels) before (printed (Or a b) ++ tail) (after (items before (disjunction (Or a b))) reached) =
-      chained_both operand.Or (printed a) (printed b) (codes " OR ") (λ before. items before (disjunction a)) (λ before. items before (disjunction b))
-        (λ before. items before (disjunction (Or a b))) (depth a) (depth b) right.begins (λ text. refl)
-        (λ before. sym (items-with before (disjunction a) (disjunction b))) left.chained right.chained in
+    → Starts (leaf levels) before (printed (Or a b) ++ tail) (after (items before (disjunction (Or a b))) reached) =
+    chained_both operand.Or (printed a) (printed b) (codes " OR ") (λ before. items before (disjunction a)) (λ before. items before (disjunction b))
+    (λ before. items before (disjunction (Or a b))) (depth a) (depth b) right.begins (λ text. refl)
+    (λ before. sym (items-with before (disjunction a) (disjunction b))) left.chained right.chained in
     record { begins = begun; alone = λ levels tail h ends. alone_again levels (depth (Or a b)) (printed (Or a b)) tail (disjunction (Or a b)) h begun chained; chained = chained }
 
 -- ---- the whole query
@@ -315,7 +315,7 @@ query_again e plain h =
     let reads : Read e = read e plain in
     let d : Disjunction = disjunction e in
     let starts : Starts (leaf max_levels) None (printed e) (ended (items None d) []) =
-      starts_moved max_levels None (printed e ++ []) (printed e) (after (items None d) (ended [] [])) (ended (items None d) []) (append-nil (printed e)) (after-ended (items None d) [])
-        (reads.chained max_levels None [] (ended [] []) h (end_follows (leaf max_levels) [] at_end (no_leaf_end max_levels))) in
+    starts_moved max_levels None (printed e ++ []) (printed e) (after (items None d) (ended [] [])) (ended (items None d) []) (append-nil (printed e)) (after-ended (items None d) [])
+    (reads.chained max_levels None [] (ended [] []) h (end_follows (leaf max_levels) [] at_end (no_leaf_end max_levels))) in
     read_whole (printed e) (tree_of_expression e) (unspaced_begun (printed e) reads.begins)
-      (tree_again (leaf max_levels) (printed e) (ended (items None d) []) reads.begins starts ∙ ap (λ t. Found t (skip is_space [])) (joined_is d) ∙ ap (Found (joined d)) at_end.1)
+    (tree_again (leaf max_levels) (printed e) (ended (items None d) []) reads.begins starts ∙ ap (λ t. Found t (skip is_space [])) (joined_is d) ∙ ap (Found (joined d)) at_end.1)

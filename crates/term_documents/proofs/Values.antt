@@ -131,8 +131,8 @@ module _ (d : Doc) (default : List ℕ) where
   value_tree_and : (c : Conjunction) → value (tree_and c) ≡ value_and c
   value_tree_and (t, []) = sym (and-true (value t))
   value_tree_and (t, u ∷ us) =
-    ap (λ (x : List (Option Occur × UserInputAst)). value (tree.Clause (must t ∷ must u ∷ x))) (musts_marked us)
-    ∙ value_marked Must t (u ∷ us) ∙ ap (λ b. value t && (value u && b)) (all_values us)
+      ap (λ (x : List (Option Occur × UserInputAst)). value (tree.Clause (must t ∷ must u ∷ x))) (musts_marked us)
+      ∙ value_marked Must t (u ∷ us) ∙ ap (λ b. value t && (value u && b)) (all_values us)
 
   disjuncts_marked : (cs : List Conjunction) → map disjunct cs ≡ marked Should (map tree_and cs)
   disjuncts_marked [] = refl
@@ -152,7 +152,7 @@ module _ (d : Doc) (default : List ℕ) where
   value_joined ((t, []), []) = value_tree_and (t, []) ∙ sym (or-false (value_and (t, [])))
   value_joined ((t, u ∷ us), []) = value_tree_and (t, u ∷ us) ∙ sym (or-false (value_and (t, u ∷ us)))
   value_joined (c, e ∷ es) =
-    ap value (joined_marked c e es) ∙ value_marked Should (tree_and c) (map tree_and (e ∷ es)) ∙ any_ands (c ∷ e ∷ es)
+      ap value (joined_marked c e es) ∙ value_marked Should (tree_and c) (map tree_and (e ∷ es)) ∙ any_ands (c ∷ e ∷ es)
 
   -- ---- expressions
 
@@ -160,7 +160,7 @@ module _ (d : Doc) (default : List ℕ) where
   field_test field test = record { field = encode_utf8_all field; takes = test }
 
   set_value : (field : List ℕ) (texts : List (List ℕ))
-    → list_any (λ wanted. holds_where d wanted.field wanted.takes) (map (λ element. let out : Lookup = record { field = encode_utf8_all field; takes = λ term. bytes_eq term element } in out) (map encode_utf8_all texts))
+      → list_any (λ wanted. holds_where d wanted.field wanted.takes) (map (λ element. let out : Lookup = record { field = encode_utf8_all field; takes = λ term. bytes_eq term element } in out) (map encode_utf8_all texts))
       ≡ list_any (λ text. holds d (encode_utf8_all field) (encode_utf8_all text)) texts
   set_value field [] = refl
   set_value field (text ∷ texts) = ap (λ b. holds d (encode_utf8_all field) (encode_utf8_all text) || b) (set_value field texts)
@@ -186,18 +186,18 @@ module _ (d : Doc) (default : List ℕ) where
   value_is (Set f ts) = alone_value _ _ (set_value f ts)
   value_is (Exists f) = alone_value _ _ (or-false (holds_where d (encode_utf8_all f) (λ term. true)))
   value_is (Not e) =
-    or-false (value (negated (joined (disjunction e))) && true) ∙ and-true (value (negated (joined (disjunction e))))
-    ∙ value_marked MustNot (joined (disjunction e)) [] ∙ ap not (or-false (value (joined (disjunction e))) ∙ value_joined (disjunction e) ∙ value_is e)
+      or-false (value (negated (joined (disjunction e))) && true) ∙ and-true (value (negated (joined (disjunction e))))
+      ∙ value_marked MustNot (joined (disjunction e)) [] ∙ ap not (or-false (value (joined (disjunction e))) ∙ value_joined (disjunction e) ∙ value_is e)
   value_is (And a b) =
-    let c : Conjunction = conjunction a (disjunction a) in
-    let e : Conjunction = conjunction b (disjunction b) in
-    or-false (value_and (with c e)) ∙ list_all-append value (c.0 ∷ c.1) (e.0 ∷ e.1)
-    ∙ ap (λ x. x && value_and e) (value_conjunction a ∙ value_is a) ∙ ap (λ x. means d a && x) (value_conjunction b ∙ value_is b)
+      let c : Conjunction = conjunction a (disjunction a) in
+      let e : Conjunction = conjunction b (disjunction b) in
+      or-false (value_and (with c e)) ∙ list_all-append value (c.0 ∷ c.1) (e.0 ∷ e.1)
+      ∙ ap (λ x. x && value_and e) (value_conjunction a ∙ value_is a) ∙ ap (λ x. means d a && x) (value_conjunction b ∙ value_is b)
   value_is (Or a b) =
-    let c : Disjunction = disjunction a in
-    let e : Disjunction = disjunction b in
-    list_any-append value_and (c.0 ∷ c.1) (e.0 ∷ e.1)
-    ∙ ap (λ x. x || value_or e) (value_is a) ∙ ap (λ x. means d a || x) (value_is b)
+      let c : Disjunction = disjunction a in
+      let e : Disjunction = disjunction b in
+      list_any-append value_and (c.0 ∷ c.1) (e.0 ∷ e.1)
+      ∙ ap (λ x. x || value_or e) (value_is a) ∙ ap (λ x. means d a || x) (value_is b)
 
   pub satisfies_is : (e : Expression) → satisfies d (tree_of_expression e) default ≡ means d e
   satisfies_is e = value_joined (disjunction e) ∙ value_is e
@@ -233,8 +233,8 @@ module _ (d : Doc) (default : List ℕ) where
   unfolding without_repeats
   once_marked m [] = refl
   once_marked m (t ∷ ts) =
-    ap (λ (x : List (Option Occur × UserInputAst)). (Some m, t) ∷ filter (λ other. not (same_pair (Some m, t) other)) x) (once_marked m ts)
-    ∙ ap (λ (x : List (Option Occur × UserInputAst)). (Some m, t) ∷ x) (filter_marked m t (once m ts))
+      ap (λ (x : List (Option Occur × UserInputAst)). (Some m, t) ∷ filter (λ other. not (same_pair (Some m, t) other)) x) (once_marked m ts)
+      ∙ ap (λ (x : List (Option Occur × UserInputAst)). (Some m, t) ∷ x) (filter_marked m t (once m ts))
 
   unwrapped_marked : (m : Occur) (ts : List UserInputAst) → map unwrapped (marked m ts) ≡ marked m ts
   unwrapped_marked m [] = refl
@@ -246,14 +246,14 @@ module _ (d : Doc) (default : List ℕ) where
 
   rewritten_marked : (m : Occur) (ts : List UserInputAst) → rewritten (tree.Clause (marked m ts)) ≡ tree.Clause (marked m (once m (map rewritten ts)))
   rewritten_marked m ts =
-    rewritten-Clause (marked m ts) ∙ ap rewritten_clause (rewritten_each m ts)
-    ∙ ap (λ (x : List (Option Occur × UserInputAst)). tree.Clause (map unwrapped x)) (once_marked m (map rewritten ts))
-    ∙ ap tree.Clause (unwrapped_marked m (once m (map rewritten ts)))
+      rewritten-Clause (marked m ts) ∙ ap rewritten_clause (rewritten_each m ts)
+      ∙ ap (λ (x : List (Option Occur × UserInputAst)). tree.Clause (map unwrapped x)) (once_marked m (map rewritten ts))
+      ∙ ap tree.Clause (unwrapped_marked m (once m (map rewritten ts)))
 
   same_value : (m : Occur) (t u : UserInputAst) → is_new m t u ≡ false → value u ≡ value t
   same_value m t u h =
-    let same = split_and (same_occur (Some m) (Some m)) (same_tree t u) (twice (same_pair (Some m, t) (Some m, u)) h) in
-    ap value (sym ((same_tree-Decides t u).0 same.1))
+      let same = split_and (same_occur (Some m) (Some m)) (same_tree t u) (twice (same_pair (Some m, t) (Some m, u)) h) in
+      ap value (sym ((same_tree-Decides t u).0 same.1))
     where
       twice : (b : Bool) → not b ≡ false → b ≡ true
       twice true h = refl
@@ -311,8 +311,8 @@ module _ (d : Doc) (default : List ℕ) where
 
   clause_keeps : (m : Occur) (t : UserInputAst) (ts : List UserInputAst) → AllKeep (t ∷ ts) → Keeps (tree.Clause (marked m (t ∷ ts)))
   clause_keeps m t ts h =
-    ap value (rewritten_marked m (t ∷ ts)) ∙ value_marked m (rewritten t) (filter (is_new m (rewritten t)) (once m (map rewritten ts)))
-    ∙ joins_once m (t ∷ ts) h ∙ sym (value_marked m t ts)
+      ap value (rewritten_marked m (t ∷ ts)) ∙ value_marked m (rewritten t) (filter (is_new m (rewritten t)) (once m (map rewritten ts)))
+      ∙ joins_once m (t ∷ ts) h ∙ sym (value_marked m t ts)
 
   leaf_keeps : (l : UserInputLeaf) → Keeps (tree.Leaf l)
   leaf_keeps l = ap value (rewritten-Leaf l)
@@ -352,7 +352,7 @@ module _ (d : Doc) (default : List ℕ) where
   joined_keeps ((t, []), []) h = tree_and_keeps (t, []) h.0
   joined_keeps ((t, u ∷ us), []) h = tree_and_keeps (t, u ∷ us) h.0
   joined_keeps (c, e ∷ es) h =
-    ap (λ t. value (rewritten t)) (joined_marked c e es) ∙ clause_keeps Should (tree_and c) (map tree_and (e ∷ es)) (trees_and_keep (c ∷ e ∷ es) h) ∙ sym (ap value (joined_marked c e es))
+      ap (λ t. value (rewritten t)) (joined_marked c e es) ∙ clause_keeps Should (tree_and c) (map tree_and (e ∷ es)) (trees_and_keep (c ∷ e ∷ es) h) ∙ sym (ap value (joined_marked c e es))
 
   conjunction_keeps : (e : Expression) → OrKeeps (disjunction e) → AndKeeps (conjunction e (disjunction e))
   conjunction_keeps (Or a b) h = (joined_keeps (disjunction (Or a b)) h, tt)
@@ -372,13 +372,13 @@ module _ (d : Doc) (default : List ℕ) where
   expression_keeps (Exists f) = ((leaf_keeps _, tt), tt)
   expression_keeps (Not e) = ((clause_keeps MustNot (joined (disjunction e)) [] (joined_keeps (disjunction e) (expression_keeps e), tt), tt), tt)
   expression_keeps (And a b) =
-    let c : Conjunction = conjunction a (disjunction a) in
-    let e : Conjunction = conjunction b (disjunction b) in
-    (all_keep_append (c.0 ∷ c.1) (e.0 ∷ e.1) (conjunction_keeps a (expression_keeps a)) (conjunction_keeps b (expression_keeps b)), tt)
+      let c : Conjunction = conjunction a (disjunction a) in
+      let e : Conjunction = conjunction b (disjunction b) in
+      (all_keep_append (c.0 ∷ c.1) (e.0 ∷ e.1) (conjunction_keeps a (expression_keeps a)) (conjunction_keeps b (expression_keeps b)), tt)
   expression_keeps (Or a b) =
-    let c : Disjunction = disjunction a in
-    let e : Disjunction = disjunction b in
-    all_and_keep_append (c.0 ∷ c.1) (e.0 ∷ e.1) (expression_keeps a) (expression_keeps b)
+      let c : Disjunction = disjunction a in
+      let e : Disjunction = disjunction b in
+      all_and_keep_append (c.0 ∷ c.1) (e.0 ∷ e.1) (expression_keeps a) (expression_keeps b)
 
   pub rewritten_means : (e : Expression) → satisfies d (rewritten (tree_of_expression e)) default ≡ means d e
   rewritten_means e = joined_keeps (disjunction e) (expression_keeps e) ∙ satisfies_is e

@@ -1,5 +1,5 @@
 -- Documents, as lists of pairs of a field and a term.
-use Rattle.std.specs.Prelude.{◌≡◌, ℕ, ◌+◌, ◌^◌, ◌<◌, ◌≤◌, ◌&&◌, ◌==◌, not, Bool, List, length, map, filter, All, Option, Some, None, option_map, sum_by, bytes_eq, nat_le, nat_lt, slice_get, if◌then◌else◌}
+use Rattle.std.specs.Prelude.{ℕ, ◌+◌, ◌^◌, ◌<◌, ◌≤◌, ◌&&◌, ◌==◌, not, Bool, List, length, map, filter, All, Option, Some, None, option_map, sum_by, bytes_eq, nat_le, nat_lt, slice_get, if◌then◌else◌}
 use Rattle.std.specs.List.{list_any, list_all, enumerate_from, filter_map, flat_map}
 use Rattle.term_documents.specs.declared.documents.Pair.{Pair}
 use Rattle.term_documents.specs.declared.documents.Doc.{Doc}
@@ -59,7 +59,7 @@ fault_of pair = if is_field pair.field then (if is_short pair then None else Som
 abbrev pub faults_from : ℕ → ℕ → List Pair → List PlacedFault
 faults_from doc place pairs =
     filter_map (λ numbered. option_map (λ fault. record { doc = doc; pair = numbered.0; fault = fault }) (fault_of numbered.1))
-      (enumerate_from place pairs)
+    (enumerate_from place pairs)
 
 -- the fault of the first faulty pair of these documents, the first of which has this number
 abbrev pub first_from : ℕ → List Doc → Option PlacedFault

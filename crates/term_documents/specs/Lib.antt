@@ -3,4 +3,5 @@ pub mod Postings
 pub mod Satisfies
 pub mod Meaning
 pub mod Expressions
+pub mod Escapes
 pub mod Law

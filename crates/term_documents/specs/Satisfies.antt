@@ -84,7 +84,7 @@ unfoldable pub satisfies_clause : List (Option Occur × Bool) → Bool
 satisfies_clause [] = false
 satisfies_clause (pair ∷ pairs) =
     if list_all (λ one. is_must_not one.0) (pair ∷ pairs) then not (any (answers is_must_not (pair ∷ pairs)))
-      else satisfies_mixed (pair ∷ pairs)
+    else satisfies_mixed (pair ∷ pairs)
 
 -- a boost changes nothing
 abbrev pub satisfies_layer : Doc → List ℕ → UserInputAst-F Bool → Bool

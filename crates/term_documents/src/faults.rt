@@ -64,7 +64,10 @@ fn fault_of(pair: &Pair) -> Option<Fault>
 fn is_valid(doc: &Doc) -> bool
     ensures { IsTrue result ↔ All IsValidPair doc.now.pairs }
 {
-    doc.pairs.as_slice().iter().all(|pair| fault_of(pair).is_none())
+    doc.pairs
+        .as_slice()
+        .iter()
+        .all(|pair| fault_of(pair).is_none())
 }
 
 /// Whether an index can keep the documents.

@@ -6,5 +6,4 @@ ghost use Rattle.term_documents.specs.Law.{PrintedMeansTheSame, PrintedTooDeep};
 pub fn printed_means_the_same()
     ensures means_the_same { PrintedMeansTheSame }
     ensures too_deep { PrintedTooDeep }
-{
-}
+{}

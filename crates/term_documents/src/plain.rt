@@ -153,9 +153,8 @@ pub fn is_plain(expr: &Expr) -> bool
     ensures { result ≡ meaning.is_plain (expression_of expr.now) }
 {
     match expr {
-        Expr::Term(field, _) | Expr::Prefix(field, _) | Expr::Set(field, _) | Expr::Exists(field) => {
-            is_plain_field(field.as_str())
-        }
+        Expr::Term(field, _) | Expr::Prefix(field, _) | Expr::Set(field, _) | Expr::Exists(field) =>
+            { is_plain_field(field.as_str()) }
         Expr::Range(field, lower, upper) => {
             is_plain_field(field.as_str()) && is_plain_bound(lower) && is_plain_bound(upper)
         }

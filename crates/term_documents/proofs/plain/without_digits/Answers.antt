@@ -1,4 +1,4 @@
-use Rattle.std.proofs.Common.{rules, ap, ◌∙◌, sym}
+use Rattle.std.proofs.Common.{rules}
 use Rattle.std.specs.Char.{is_ascii_digit}
 use Rattle.term_documents.proofs.Digits.{goes_on, stops, ends}
 use Rattle.term_documents.proofs.plain.without_digits.Goals as goal
