@@ -1,0 +1,8 @@
+//! The strict query grammar: a text is read as a tree, refused, or found too deep.
+#![tactic(auto)]
+
+mod classes;
+mod cursor;
+mod reading;
+mod stop;
+mod words;
