@@ -20,7 +20,7 @@ closes (c ∷ d ∷ rest) =
     if is_field_character c then closes (d ∷ rest)
     else (if c == backslash then (if is_special d then closes rest else closes (d ∷ rest)) else has_colon (c ∷ d ∷ rest))
 
-abbrev after_first : List ℕ → List ℕ
+abbrev pub after_first : List ℕ → List ℕ
 after_first [] = []
 after_first (c ∷ rest) = rest
 

@@ -3,6 +3,8 @@
 
 mod classes;
 mod cursor;
+mod leaves;
 mod reading;
+mod starts;
 mod stop;
 mod words;
