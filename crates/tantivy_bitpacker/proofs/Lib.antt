@@ -5,3 +5,5 @@ pub mod Unpacking
 pub mod Packing
 pub mod Runs
 pub mod Words
+pub mod Loads
+pub mod Places

@@ -1,5 +1,5 @@
 -- Laws of the bits that stand in bytes: what a part of the bytes tells of the whole.
-use Rattle.std.proofs.Common.{◌≡◌, ℕ, zero, suc, ◌+◌, ◌*◌, ◌/◌, ◌%◌, ◌^◌, ◌<◌, ◌≤◌, List, ◌∷◌, ◌++◌, length, take, drop, get_or, refl, ap, ◌∙◌, arith}
+use Rattle.std.proofs.Common.{◌≡◌, ℕ, zero, suc, ◌+◌, ◌-◌, ◌*◌, ◌/◌, ◌%◌, ◌^◌, ◌<◌, ◌≤◌, List, [], ◌∷◌, ◌++◌, length, take, drop, get_or, refl, ap, ◌∙◌, arith}
 use Rattle.std.proofs.lemmas.Nat.{shr-shr, pow_pos}
 use Rattle.std.proofs.Math.Nat.{mod-lt}
 use Rattle.tantivy_bitpacker.specs.Packed.{as_number, bits_from, unpacked_from}
@@ -25,6 +25,17 @@ pub bits_from-append : (place width : ℕ) (bytes rest : List ℕ) → place + w
 unfolding bits_from
 bits_from-append place width bytes rest within =
     ap (λ m. m / 2 ^ place % 2 ^ width) (as_number-append bytes rest) ∙ field-add_high (as_number bytes) (8 * length bytes) (as_number rest) place width within
+
+-- bits within the eight bytes from a place on
+pub bits_from-word : (place width : ℕ) (bytes : List ℕ) → place % 8 + width ≤ 64 → as_number (drop (place / 8) bytes) % 2 ^ 64 / 2 ^ (place % 8) % 2 ^ width ≡ bits_from place width bytes
+unfolding bits_from
+bits_from-word place width bytes within =
+    let split : 8 * (place / 8) + place % 8 ≡ place = omega arith in
+    field_within (as_number (drop (place / 8) bytes)) 64 (place % 8) width within ∙ bits_from-drop (place % 8) width (place / 8) bytes ∙ ap (λ p. bits_from p width bytes) split
+
+-- a number of a width of at most 56 bits, or of 64, lies within the eight bytes from its first on
+pub spread-within : (i width : ℕ) → (56 < width → width ≡ 64) → i * width % 8 + width ≤ 64
+spread-within i width allowed = let whole : width ≡ 64 → i * width % 8 ≡ 0 = λ e. rw e (omega arith) in grind arith
 
 -- ---- numbers of one width
 
@@ -53,6 +64,20 @@ unpacked_from-add first (suc m) n width bytes =
     let start : first + 1 + m ≡ first + suc m = omega arith in
     ap (λ k. unpacked_from first k width bytes) count ∙ ap (λ k. bits_from (first * width) width bytes ∷ k) (unpacked_from-add (first + 1) m n width bytes)
     ∙ ap (λ k. bits_from (first * width) width bytes ∷ (unpacked_from (first + 1) m width bytes ++ unpacked_from k n width bytes)) start
+
+-- one more
+pub unpacked_from-push : (first n width : ℕ) (bytes : List ℕ) → unpacked_from first (n + 1) width bytes ≡ unpacked_from first n width bytes ++ bits_from ((first + n) * width) width bytes ∷ []
+unfolding unpacked_from
+unpacked_from-push first n width bytes = unpacked_from-add first n 1 width bytes
+
+-- the first and the others
+pub unpacked_from-step : (first end width : ℕ) (bytes : List ℕ) → first < end → unpacked_from first (end - first) width bytes ≡ bits_from (first * width) width bytes ∷ unpacked_from (first + 1) (end - (first + 1)) width bytes
+unfolding unpacked_from
+unpacked_from-step first end width bytes below = let count : end - first ≡ suc (end - (first + 1)) = omega arith in ap (λ n. unpacked_from first n width bytes) count
+
+pub unpacked_from-none : (first end width : ℕ) (bytes : List ℕ) → end ≤ first → unpacked_from first (end - first) width bytes ≡ []
+unfolding unpacked_from
+unpacked_from-none first end width bytes past = let count : end - first ≡ 0 = omega arith in ap (λ n. unpacked_from first n width bytes) count
 
 -- numbers within the first bytes
 pub unpacked_from-take : (first count width n : ℕ) (bytes : List ℕ) → (first + count) * width ≤ 8 * n → unpacked_from first count width (take n bytes) ≡ unpacked_from first count width bytes

@@ -1,5 +1,5 @@
 // A writer that packs numbers, and a reader of them.
-ghost use Rattle.std.specs.Prelude.{◌≡◌, ℕ, ◌+◌, ◌*◌, ◌/◌, ◌%◌, ◌^◌, ◌<◌, ◌≤◌, List, [], ◌∷◌, ◌++◌, Option, OnOk, OnErr, Err};
+ghost use Rattle.std.specs.Prelude.{◌≡◌, ℕ, ◌+◌, ◌*◌, ◌/◌, ◌%◌, ◌^◌, ◌<◌, ◌≤◌, List, [], ◌∷◌, ◌++◌, Option, OnOk, OnErr, Err, length, drop};
 ghost use Rattle.std.specs.Io.KnownBytes.{Appends};
 ghost use Rattle.owned_bytes.specs.Outside.{HasCause, WritesAll};
 ghost use Rattle.tantivy_bitpacker.specs.Packed.{no_bits, with_value, full_words, open_word, whole_bytes, packed_pieces, bytes_of, HasPacked};

@@ -3,6 +3,11 @@
 
 mod bitpacker;
 mod bits;
+mod bitunpacker;
+mod filter_vec;
+pub mod plain;
 
 pub use bitpacker::BitPacker;
 pub use bits::compute_num_bits;
+pub use bitunpacker::BitUnpacker;
+pub use filter_vec::filter_vec_scalar;
