@@ -7,3 +7,5 @@ pub mod Runs
 pub mod Words
 pub mod Loads
 pub mod Places
+pub mod LaneMasks
+pub mod LanePlaces

@@ -1,10 +1,11 @@
 -- Laws of the places of the numbers within two bounds.
 use Rattle.std.proofs.Common.{◌≡◌, ℕ, suc, ◌+◌, ◌-◌, ◌*◌, ◌<◌, ◌≤◌, List, [], ◌∷◌, ◌++◌, length, take, drop, get_or, set, cond, Bool, true, false, refl, ap, sym, ◌∙◌, arith, append_assoc, append-nil, length-set}
-use Rattle.std.proofs.lemmas.List.{take_more, take_more_set, take-set-le, drop-set-lt, get_or-drop, length-take-le, take_all}
+use Rattle.std.proofs.lemmas.List.{take_more, take_more_set, take-set-le, drop-set-lt, get_or-drop, length-take-le, take_all, drop_all}
 use Rattle.std.proofs.lemmas.Grind.{drop_more_same}
 use mir.Val.{bool_byte}
+use Rattle.std.proofs.lemmas.Bool.Decides.{nat_tests}
 use Rattle.std.specs.Int.{is_in_range}
-use Rattle.tantivy_bitpacker.specs.Within.{places_within, ids_within}
+use Rattle.tantivy_bitpacker.specs.Within.{places_within, ids_within, Filtering}
 use Rattle.tantivy_bitpacker.specs.Packed.{bits_from, unpacked_from}
 use Rattle.tantivy_bitpacker.proofs.Unpacking.{unpacked_from-step, unpacked_from-none}
 
@@ -45,6 +46,14 @@ places_within-step low high place x xs = by (is_in_range low high x)
     by true = refl
     by false = refl
 
+-- bounds in the wrong order hold no value
+pub places_within-reversed : (low high place : ℕ) (xs : List ℕ) → high < low → places_within low high place xs ≡ []
+unfolding places_within
+places_within-reversed low high place [] reversed = refl
+places_within-reversed low high place (x ∷ xs) reversed =
+    let outside : is_in_range low high x ≡ false = grind (arith, nat_tests) in
+    ap (λ b. cond b (place ∷ places_within low high (place + 1) xs) (places_within low high (place + 1) xs)) outside ∙ places_within-reversed low high (place + 1) xs reversed
+
 -- one more value
 pub places_within-more : (low high place : ℕ) (xs : List ℕ) (i : ℕ) → i < length xs → places_within low high place (take (i + 1) xs) ≡ places_within low high place (take i xs) ++ place_if (is_in_range low high (get_or xs i 0)) (place + i)
 places_within-more low high place xs i below =
@@ -54,13 +63,6 @@ places_within-more low high place xs i below =
 
 -- ---- a filter in place
 
--- ys began as xs: its front holds the places of the first i values, and from i on it is as it was
-pub record Filtering (low high offset : ℕ) (xs ys : List ℕ) (kept i : ℕ) : Type 0 where
-  pub front : take kept ys ≡ places_within low high offset (take i xs)
-  pub rest : drop i ys ≡ drop i xs
-  pub behind : kept ≤ i
-  pub long : length ys ≡ length xs
-
 pub Filtering-begin : (low high offset : ℕ) (xs : List ℕ) → Filtering low high offset xs xs 0 0
 unfolding places_within
 Filtering-begin low high offset xs = record { front = refl; rest = refl; behind = omega arith; long = refl }
@@ -69,6 +71,10 @@ Filtering-begin low high offset xs = record { front = refl; rest = refl; behind 
 pub bool_byte_is : (b : Bool) → bool_byte b ≡ cond b 1 0
 bool_byte_is true = refl
 bool_byte_is false = refl
+
+pub bool_byte_le : (b : Bool) → bool_byte b ≤ 1
+bool_byte_le true = omega arith
+bool_byte_le false = omega arith
 
 front_more : (b : Bool) (ys ps : List ℕ) (kept place : ℕ) → kept < length ys → take kept ys ≡ ps → take (kept + cond b 1 0) (set ys kept place) ≡ ps ++ place_if b place
 front_more true ys ps kept place below is = take_more_set ys kept place below ∙ ap (λ l. l ++ place ∷ []) is
@@ -115,3 +121,9 @@ ids_within-push found next low high first end width value bytes all within so_fa
     ap (λ l. l ++ ids_within low high (first + 1) end width bytes) (more ∙ ap (λ b. found ++ place_if b first) (tells ∙ ap (is_in_range low high) is))
     ∙ append_assoc found (place_if (is_in_range low high (bits_from (first * width) width bytes)) first) (ids_within low high (first + 1) end width bytes)
     ∙ ap (λ l. found ++ l) (sym (ids_within-step low high first end width bytes below)) ∙ so_far
+
+-- a list that was lent and given back
+pub lent_back : (n m : ℕ) (ys xs : List ℕ) → length ys ≡ length xs → m ≡ length xs → take n (take m (ys ++ drop (length ys) xs)) ≡ take n ys
+lent_back n m ys xs long all =
+    let none : drop (length ys) xs ≡ [] = drop_all (length ys) xs (omega arith) in
+    ap (λ l. take n (take m (ys ++ l))) none ∙ ap (λ l. take n (take m l)) (append-nil ys) ∙ ap (take n) (take_all m ys (omega arith))
