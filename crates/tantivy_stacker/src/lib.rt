@@ -1,0 +1,15 @@
+//! A paged arena, and byte lists and hash maps that live in it.
+#![tactic(auto)]
+
+mod addr;
+mod arena_item;
+mod error;
+mod expull;
+mod memory_arena;
+mod page;
+
+pub use addr::Addr;
+pub use arena_item::ArenaItem;
+pub use error::ArenaError;
+pub use expull::ExpUnrolledLinkedList;
+pub use memory_arena::MemoryArena;
