@@ -1,2 +1,5 @@
 pub mod Pages
 pub mod Arena
+pub mod Chains
+pub mod Lists
+pub mod Room

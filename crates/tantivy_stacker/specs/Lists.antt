@@ -98,6 +98,18 @@ room_from (suc blocks) b bytes = if bytes == 0 then 0 else block_size b + 4 + ro
 unfoldable pub room : ℕ → ℕ
 room bytes = room_from bytes 3 bytes
 
+-- the bytes of so many blocks of a list, with an address for each
+unfoldable pub blocks_room : ℕ → ℕ
+blocks_room zero = 0
+blocks_room (suc n) = blocks_room n + (block_size (n + 3) + 4)
+
+-- The fields of a list after a block at r was added, with `front` as the first one.
+pub record HasNewBlock (l m : ExpUnrolledLinkedList) (front r : ℕ) : Type 0 where
+  pub number : m.block_num ≡ l.block_num + 1
+  pub rest : m.remaining_cap ≡ block_size m.block_num
+  pub head : m.head ≡ front
+  pub tail : m.tail ≡ r
+
 -- A list of an arena was extended by these bytes.
 pub record Extends (old new : Arena) (l m : ExpUnrolledLinkedList) (bs : List ℕ) : Type 0 where
   pub laid_out : IsLaidOut new m
@@ -106,4 +118,5 @@ pub record Extends (old new : Arena) (l m : ExpUnrolledLinkedList) (bs : List �
   pub keeps : Keeps old new (free_start l) (free_end l)
   pub free : ((free_start l ≤ free_start m) × (free_end m ≤ free_end l)) ⊎ (top old ≤ free_start m)
   pub end : top old ≤ top new
+  pub spends : spent new + blocks_room (block_count l) ≡ spent old + blocks_room (block_count m)
   pub full : (k : ℕ) → 32772 ≤ k → IsFull old k → IsFull new k

@@ -9,7 +9,7 @@ mod memory_arena;
 mod page;
 
 pub use addr::Addr;
-pub use arena_item::ArenaItem;
+pub use arena_item::{ArenaItem, load, store};
 pub use error::ArenaError;
 pub use expull::ExpUnrolledLinkedList;
 pub use memory_arena::MemoryArena;

@@ -3,7 +3,7 @@ ghost use Rattle.std.specs.Prelude.{◌≡◌, ℕ, ◌+◌, ◌-◌, ◌*◌, �
 ghost use Rattle.tantivy_stacker.specs.Arena.{page_bytes, page, last_page, Lies, bytes_at, top, spent, IsFull, next_place, with_space, HasNoSpace, put, Keeps, HandsOut, Writes, IsAtLimit};
 
 use crate::page::{PAGE_SIZE, Page};
-use crate::{Addr, ArenaError};
+use crate::{Addr, ArenaError, ArenaItem, load};
 use std::alloc::{AllocError, Global};
 use std::marker::Model;
 
@@ -58,9 +58,10 @@ impl MemoryArena {
         ensures place { IfOk result (λ addr. addr ≡ next_place self.old len) }
         ensures space { OnOk result (self.new ≡ with_space self.old len) }
         ensures laws { IfOk result (λ addr. HandsOut self.old self.new addr len) }
+        ensures pages { length self.old.pages ≤ 4096 }
         ensures unchanged { OnErr result (self.new ≡ self.old) }
         ensures full { (result ≡ Err ArenaError.ArenaFull) ↔ HasNoSpace self.old len }
-        ensures at_limit { result ≡ Err ArenaError.ArenaFull → (m : ℕ) → len ≤ m → IsAtLimit self.old m }
+        ensures at_limit { IfErr result (λ e. e ≡ ArenaError.ArenaFull → (m : ℕ) → len ≤ m → IsAtLimit self.old m) }
     {
         self.hand_out(len)
     }
@@ -70,13 +71,14 @@ impl MemoryArena {
     fn hand_out(&mut self, len: usize) -> Result<Addr, ArenaError>
         requires some { 1 ≤ len }
         requires bound { len ≤ page_bytes }
-        ensures pages { 1 ≤ length self.old.pages }
+        ensures first { 1 ≤ length self.old.pages }
+        ensures pages { length self.old.pages ≤ 4096 }
         ensures last { length (page self.old (last_page self.old)) ≤ page_bytes }
         ensures place { IfOk result (λ addr. addr ≡ next_place self.old len) }
         ensures space { OnOk result (self.new ≡ with_space self.old len) }
         ensures unchanged { OnErr result (self.new ≡ self.old) }
         ensures full { (result ≡ Err ArenaError.ArenaFull) ↔ HasNoSpace self.old len }
-        ensures at_limit { result ≡ Err ArenaError.ArenaFull → (m : ℕ) → len ≤ m → IsAtLimit self.old m }
+        ensures at_limit { IfErr result (λ e. e ≡ ArenaError.ArenaFull → (m : ℕ) → len ≤ m → IsAtLimit self.old m) }
     {
         let last = self.pages.len() - 1;
         let place = self.pages[last].len();
@@ -96,7 +98,9 @@ impl MemoryArena {
     #[tactic(auto, unfolding(crate::specs::Arena::bytes_at))]
     pub fn slice(&self, addr: Addr, len: usize) -> &[u8]
         requires { Lies self.now addr len }
-        ensures { result.now ≡ bytes_at self.now addr len }
+        ensures bytes { result.now ≡ bytes_at self.now addr len }
+        ensures len { length result.now ≡ len }
+        ensures pages { length self.now.pages ≤ 4096 }
     {
         let number = addr.number() as usize;
         self.pages[number / PAGE_SIZE].slice(number % PAGE_SIZE, len)
@@ -116,16 +120,50 @@ impl MemoryArena {
     #[inline]
     pub(crate) fn write(&mut self, addr: Addr, new: &[u8])
         requires { Lies self.old addr (length new.now) }
-        ensures { Writes self.old self.new addr new.now }
+        ensures written { Writes self.old self.new addr new.now }
+        ensures pages { length self.old.pages ≤ 4096 }
     {
         self.write_bytes(addr, new)
+    }
+
+    /// The item whose bytes stand from an address on.
+    #[inline]
+    pub fn read<Item: ArenaItem>(&self, addr: Addr) -> Item
+        requires { Lies self.now addr Item.SIZE }
+        ensures { result ≡ Item.item (bytes_at self.now addr Item.SIZE) }
+    {
+        load(self.slice(addr, Item::SIZE))
+    }
+
+    /// Writes an item's bytes from an address on.
+    #[inline]
+    pub fn write_at<Item: ArenaItem>(&mut self, addr: Addr, val: Item)
+        requires { Lies self.old addr Item.SIZE }
+        ensures written { Writes self.old self.new addr (Item.bytes val) }
+        ensures size { length (Item.bytes val) ≡ Item.SIZE }
+        ensures again { Item.item (Item.bytes val) ≡ val }
+    {
+        self.store_item(addr, val);
+    }
+
+    #[inline]
+    #[tactic(auto, unfolding(crate::specs::Arena::put))]
+    fn store_item<Item: ArenaItem>(&mut self, addr: Addr, val: Item)
+        requires { Lies self.old addr Item.SIZE }
+        ensures written { self.new ≡ put self.old addr (Item.bytes val) }
+        ensures size { length (Item.bytes val) ≡ Item.SIZE }
+        ensures again { Item.item (Item.bytes val) ≡ val }
+    {
+        let number = addr.number() as usize;
+        self.pages[number / PAGE_SIZE].store(number % PAGE_SIZE, val);
     }
 
     #[inline]
     #[tactic(auto, unfolding(crate::specs::Arena::put))]
     fn write_bytes(&mut self, addr: Addr, new: &[u8])
         requires { Lies self.old addr (length new.now) }
-        ensures { self.new ≡ put self.old addr new.now }
+        ensures written { self.new ≡ put self.old addr new.now }
+        ensures pages { length self.old.pages ≤ 4096 }
     {
         let number = addr.number() as usize;
         self.pages[number / PAGE_SIZE].write(number % PAGE_SIZE, new);

@@ -2,6 +2,7 @@
 ghost use Rattle.std.specs.Prelude.{◌≡◌, ℕ, ◌+◌, ◌-◌, ◌≤◌, List, ◌++◌, length, take, drop, replicate, slice_range, OnOk, OnErr, IfOk};
 ghost use Rattle.tantivy_stacker.specs.Arena.{page_bytes, put_on_page};
 
+use crate::ArenaItem;
 use std::alloc::{AllocError, Global};
 use std::marker::Model;
 
@@ -55,7 +56,8 @@ impl Page {
 
     pub(crate) fn slice(&self, place: usize, len: usize) -> &[u8]
         requires { place + len ≤ length self.now }
-        ensures { result.now ≡ take len (drop place self.now) }
+        ensures bytes { result.now ≡ take len (drop place self.now) }
+        ensures len { length result.now ≡ len }
     {
         let bytes = self.bytes.as_slice();
         &bytes[place..place + len]
@@ -77,5 +79,17 @@ impl Page {
         let bytes = self.bytes.as_mut_slice();
         let end = place + new.len();
         bytes[place..end].copy_from_slice(new);
+    }
+
+    /// Writes an item's bytes at a place.
+    pub(crate) fn store<Item: ArenaItem>(&mut self, place: usize, val: Item)
+        requires { place + Item.SIZE ≤ length self.old }
+        ensures written { self.new ≡ put_on_page self.old place (Item.bytes val) }
+        ensures size { length (Item.bytes val) ≡ Item.SIZE }
+        ensures again { Item.item (Item.bytes val) ≡ val }
+    {
+        let bytes = self.bytes.as_mut_slice();
+        let end = place + Item::SIZE;
+        val.to_bytes(&mut bytes[place..end]);
     }
 }
