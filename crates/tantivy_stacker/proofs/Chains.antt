@@ -170,3 +170,11 @@ Chain-apart old new places keeps (suc n) b p h apart =
     let bytes = keeps.reads p (block_size b) (Lies-front (block_size b) (omega arith) h.0) (IsApart-part p (block_size b + 4) p (block_size b) (omega arith) (omega arith) places (apart 0 (p, block_size b + 4) (omega arith))) in
     let link = keeps.reads (p + block_size b) 4 (Lies-back old p (block_size b) 4 h.0 (omega arith)) (IsApart-part p (block_size b + 4) (p + block_size b) 4 (omega arith) (omega arith) places (apart 0 (p, block_size b + 4) (omega arith))) in
     ChainStays-more old new b p n (keeps.lies p (block_size b + 4) h.0) h.1 (next_stays old new b p link) bytes (Chain-apart old new places keeps n (b + 1) (next_block old b p) h.2 (λ k d l. apart (suc k) d (omega arith)))
+
+-- what is apart from the places is apart from the last block
+pub last_block-place : (a : Arena) (n b p c : ℕ) → c ≡ b + n → (q m : ℕ) → IsApart q m (block_places a b p n) → (q + m ≤ last_block a b p n) ⊎ (last_block a b p n + (block_size c + 4) ≤ q)
+unfolding last_block block_places
+last_block-place a zero b p c e q m apart =
+    let same : block_size b ≡ block_size c = ap block_size (omega arith) in
+    elim (apart 0 (p, block_size b + 4) (omega arith)) [ inl below ↦ inl below | inr above ↦ inr (omega arith) ]
+last_block-place a (suc n) b p c e q m apart = last_block-place a n (b + 1) (next_block a b p) c (omega arith) q m (λ k d l. apart (suc k) d (omega arith))

@@ -3,3 +3,5 @@ pub mod Arena
 pub mod Chains
 pub mod Lists
 pub mod Room
+pub mod Appending
+pub mod Reading

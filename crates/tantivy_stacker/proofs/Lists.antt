@@ -22,14 +22,14 @@ module _ (a : Arena) (l : ExpUnrolledLinkedList) (none : l.block_num ≡ 2) wher
   unfolding list_bytes bytes_of
   bytes-none = ap (bytes_of a l) none_count
 
-  places-none : list_places a l ≡ []
+  pub places-none : list_places a l ≡ []
   unfolding list_places places_of
   places-none = ap (places_of a l) none_count
 
-free-none : (l : ExpUnrolledLinkedList) → l.block_num ≡ 2 → (free_start l ≡ 0) × (free_end l ≡ 0)
+pub free-none : (l : ExpUnrolledLinkedList) → l.block_num ≡ 2 → (free_start l ≡ 0) × (free_end l ≡ 0)
 free-none l e = (ap (λ k. cond (eqb k 2) 0 l.tail) e, ap (λ k. cond (eqb k 2) 0 (l.tail + (l.remaining_cap + 4))) e)
 
-free-some : (l : ExpUnrolledLinkedList) (n : ℕ) → l.block_num ≡ n + 3 → (free_start l ≡ l.tail) × (free_end l ≡ l.tail + (l.remaining_cap + 4))
+pub free-some : (l : ExpUnrolledLinkedList) (n : ℕ) → l.block_num ≡ n + 3 → (free_start l ≡ l.tail) × (free_end l ≡ l.tail + (l.remaining_cap + 4))
 free-some l n e =
     let off : eqb l.block_num 2 ≡ false = ne_eqb l.block_num 2 (λ is. absurd (omega arith)) in
     (ap (λ b. cond b 0 l.tail) off, ap (λ b. cond b 0 (l.tail + (l.remaining_cap + 4))) off)
@@ -42,7 +42,7 @@ module _ (a : Arena) (l : ExpUnrolledLinkedList) (n : ℕ) (some : l.block_num �
   unfolding list_bytes bytes_of
   bytes-some = ap (bytes_of a l) some_count
 
-  places-some : list_places a l ≡ block_places a 3 l.head n
+  pub places-some : list_places a l ≡ block_places a 3 l.head n
   unfolding list_places places_of
   places-some = ap (places_of a l) some_count
 

@@ -120,3 +120,14 @@ pub record Extends (old new : Arena) (l m : ExpUnrolledLinkedList) (bs : List �
   pub end : top old ≤ top new
   pub spends : spent new + blocks_room (block_count l) ≡ spent old + blocks_room (block_count m)
   pub full : (k : ℕ) → 32772 ≤ k → IsFull old k → IsFull new k
+
+-- What a write to a list leaves of the arena, whether it ended well or not.
+pub record ListWrite (old new : Arena) (l m : ExpUnrolledLinkedList) : Type 0 where
+  -- the arena holds the list
+  pub held : IsHeld new m
+  -- its places are those that it had, and places that no earlier call handed out
+  pub places : (fresh : List (ℕ × ℕ)) × (list_places new m ≡ list_places old l ++ fresh) × All (λ r. top old ≤ r.0) fresh
+  -- all other places are as they were
+  pub others : KeepsBut old new (list_places old l)
+  pub end : top old ≤ top new
+  pub full : (k : ℕ) → 32772 ≤ k → IsFull old k → IsFull new k

@@ -1,9 +1,10 @@
 // Byte lists in an arena.
 ghost use Rattle.std.specs.Prelude.{◌≡◌, ◌≢◌, ℕ, ◌+◌, ◌-◌, ◌^◌, ◌<◌, ◌≤◌, min, List, [], ◌++◌, length, take, drop, IfOk, OnOk, OnErr, IfErr};
-ghost use Rattle.tantivy_stacker.specs.Arena.{Lies, bytes_at, IsAtLimit};
-ghost use Rattle.tantivy_stacker.specs.Lists.{block_size as size_of_block, IsLaidOut, IsHeld, list_bytes, list_places, HasNewBlock, Extends};
+ghost use Rattle.tantivy_stacker.specs.Arena.{Lies, bytes_at, spent, IsAtLimit};
+ghost use Rattle.tantivy_stacker.specs.Lists.{block_size as size_of_block, IsLaidOut, IsHeld, list_bytes, list_places, HasNewBlock, Extends, ListWrite, room};
 
 use crate::{Addr, ArenaError, MemoryArena};
+use std::alloc::AllocError;
 
 /// The number of the block before the first, so that block number n has 2^n bytes, up to 2^15.
 const FIRST_BLOCK_NUM: u32 = 2;
@@ -19,6 +20,8 @@ pub struct ExpUnrolledLinkedList {
 }
 
 impl Default for ExpUnrolledLinkedList {
+    ghost is_default = { λ l. (l.remaining_cap ≡ 0) × (l.block_num ≡ 2) };
+
     fn default() -> Self {
         ExpUnrolledLinkedList {
             remaining_cap: 0,
@@ -143,5 +146,83 @@ impl ExpUnrolledLinkedList {
             Ok(()) => Ok(self.fill(arena, buf)),
             Err(error) => Err(error),
         }
+    }
+
+    /// Lends the list and its arena to a writer.
+    pub fn writer<'a>(&'a mut self, arena: &'a mut MemoryArena) -> ExpUnrolledLinkedListWriter<'a>
+        ensures list { result.eull.ghost_name ≡ self.entry.ghost_name }
+        ensures arena { result.arena.ghost_name ≡ arena.entry.ghost_name }
+        ensures list_value { result.eull.now ≡ self.old }
+        ensures arena_value { result.arena.now ≡ arena.old }
+    {
+        ExpUnrolledLinkedListWriter { eull: self, arena }
+    }
+
+    /// Appends bytes. After an error the list is as it was; the arena may have handed out space that nothing uses.
+    pub fn append(&mut self, arena: &mut MemoryArena, buf: &[u8]) -> Result<(), ArenaError>
+        requires { IsHeld arena.old self.old }
+        ensures bytes { OnOk result (list_bytes arena.new self.new ≡ list_bytes arena.old self.old ++ buf.now) }
+        ensures unchanged { OnErr result (self.new ≡ self.old) }
+        ensures same { OnErr result (list_bytes arena.new self.new ≡ list_bytes arena.old self.old) }
+        ensures write { ListWrite arena.old arena.new self.old self.new }
+        ensures space { spent arena.new + room (length (list_bytes arena.old self.old)) ≤ spent arena.old + room (length (list_bytes arena.old self.old) + length buf.now) }
+        ensures needed { OnErr result (room (length (list_bytes arena.old self.old)) < room (length (list_bytes arena.old self.old) + length buf.now)) }
+        ensures at_limit { IfErr result (λ e. e ≡ ArenaError.ArenaFull → (m : ℕ) → 32772 ≤ m → IsAtLimit arena.new m) }
+    {
+        let before = *self;
+        let mut rest = buf;
+        while !rest.is_empty() {
+            match self.extend_once(arena, rest) {
+                Ok(taken) => rest = &rest[taken..],
+                Err(error) => {
+                    *self = before;
+                    return Err(error);
+                }
+            }
+        }
+        Ok(())
+    }
+
+    /// Appends the list's bytes to `output`. After an error `output` has a part of them behind what it held.
+    pub fn read_to_end(&self, arena: &MemoryArena, output: &mut Vec<u8>) -> Result<(), AllocError>
+        requires { IsHeld arena.now self.now }
+        ensures bytes { OnOk result (output.new.items ≡ output.old.items ++ list_bytes arena.now self.now) }
+        ensures kept { (part : List ℕ) × (output.new.items ≡ output.old.items ++ part) }
+    {
+        if self.block_num == FIRST_BLOCK_NUM {
+            return Ok(());
+        }
+        let mut addr = self.head;
+        for block_num in FIRST_BLOCK_NUM + 1..self.block_num {
+            let size = block_size(block_num);
+            output.extend_from_slice(arena.slice(addr, size))?;
+            addr = arena.read(addr.offset(size as u32));
+        }
+        let used = block_size(self.block_num) - self.remaining_cap as usize;
+        output.extend_from_slice(arena.slice(addr, used))
+    }
+}
+
+/// Writes to a list of an arena.
+pub struct ExpUnrolledLinkedListWriter<'a> {
+    eull: &'a mut ExpUnrolledLinkedList,
+    arena: &'a mut MemoryArena,
+}
+
+impl ExpUnrolledLinkedListWriter<'_> {
+    /// Appends bytes, as `append` of the list does.
+    pub fn extend_from_slice(&mut self, buf: &[u8]) -> Result<(), ArenaError>
+        requires { IsHeld self.old.arena.now self.old.eull.now }
+        ensures list { self.new.eull.ghost_name ≡ self.old.eull.ghost_name }
+        ensures arena { self.new.arena.ghost_name ≡ self.old.arena.ghost_name }
+        ensures bytes { OnOk result (list_bytes self.new.arena.now self.new.eull.now ≡ list_bytes self.old.arena.now self.old.eull.now ++ buf.now) }
+        ensures unchanged { OnErr result (self.new.eull.now ≡ self.old.eull.now) }
+        ensures same { OnErr result (list_bytes self.new.arena.now self.new.eull.now ≡ list_bytes self.old.arena.now self.old.eull.now) }
+        ensures write { ListWrite self.old.arena.now self.new.arena.now self.old.eull.now self.new.eull.now }
+        ensures space { spent self.new.arena.now + room (length (list_bytes self.old.arena.now self.old.eull.now)) ≤ spent self.old.arena.now + room (length (list_bytes self.old.arena.now self.old.eull.now) + length buf.now) }
+        ensures needed { OnErr result (room (length (list_bytes self.old.arena.now self.old.eull.now)) < room (length (list_bytes self.old.arena.now self.old.eull.now) + length buf.now)) }
+        ensures at_limit { IfErr result (λ e. e ≡ ArenaError.ArenaFull → (m : ℕ) → 32772 ≤ m → IsAtLimit self.new.arena.now m) }
+    {
+        self.eull.append(self.arena, buf)
     }
 }
