@@ -5,3 +5,4 @@ pub mod Lists
 pub mod Room
 pub mod Appending
 pub mod Reading
+pub mod ListFacts

@@ -73,7 +73,7 @@ pub record ListStays (old new : Arena) (l : ExpUnrolledLinkedList) : Type 0 wher
   pub bytes : list_bytes new l ≡ list_bytes old l
   pub places : list_places new l ≡ list_places old l
 
-none_stays : (a b : Arena) (l : ExpUnrolledLinkedList) → l.block_num ≡ 2 → IsLaidOut a l → ListStays a b l
+pub none_stays : (a b : Arena) (l : ExpUnrolledLinkedList) → l.block_num ≡ 2 → IsLaidOut a l → ListStays a b l
 unfolding IsLaidOutBy
 none_stays a b l e h =
     let rest : l.remaining_cap ≡ 0 = subst (IsLaidOutBy a l) (none_count a l e) h.laid in
@@ -83,7 +83,7 @@ none_stays a b l e h =
       places = places-none b l e ∙ sym (places-none a l e);
     }
 
-some_stays : (a b : Arena) (l : ExpUnrolledLinkedList) (n : ℕ) → l.block_num ≡ n + 3 → IsLaidOut a l → ChainStays a b 3 l.head n → bytes_at b (last_block a 3 l.head n) (used l) ≡ bytes_at a (last_block a 3 l.head n) (used l) → ListStays a b l
+pub some_stays : (a b : Arena) (l : ExpUnrolledLinkedList) (n : ℕ) → l.block_num ≡ n + 3 → IsLaidOut a l → ChainStays a b 3 l.head n → bytes_at b (last_block a 3 l.head n) (used l) ≡ bytes_at a (last_block a 3 l.head n) (used l) → ListStays a b l
 some_stays a b l n e h stays bytes =
     let laid = laid-some a l n e h in
     record {

@@ -33,12 +33,12 @@ full_blocks-length a (suc n) b p h =
     let here = bytes_at-length a p (block_size b) (Lies-front (block_size b) (omega arith) h.0) in
     omega (arith, length-append (bytes_at a p (block_size b)) (full_blocks a (b + 1) (next_block a b p) n), full_blocks-length a n (b + 1) (next_block a b p) h.2)
 
-room_from-zero : (f b : ℕ) → room_from f b 0 ≡ 0
+pub room_from-zero : (f b : ℕ) → room_from f b 0 ≡ 0
 unfolding room_from
 room_from-zero zero b = refl
 room_from-zero (suc f) b = refl
 
-room_from-some : (f b x : ℕ) → 1 ≤ x → room_from (suc f) b x ≡ block_size b + 4 + room_from f (b + 1) (x - block_size b)
+pub room_from-some : (f b x : ℕ) → 1 ≤ x → room_from (suc f) b x ≡ block_size b + 4 + room_from f (b + 1) (x - block_size b)
 unfolding room_from
 room_from-some f b x h = ap (λ t. cond t 0 (block_size b + 4 + room_from f (b + 1) (x - block_size b))) (ne_eqb x 0 (λ e. absurd (omega arith)))
 

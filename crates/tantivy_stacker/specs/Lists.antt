@@ -56,6 +56,10 @@ unfoldable pub IsLaidOutBy : Arena → ExpUnrolledLinkedList → ℕ → Type 0
 IsLaidOutBy a l zero = l.remaining_cap ≡ 0
 IsLaidOutBy a l (suc n) = IsChain a 3 l.head n × (l.tail + l.remaining_cap ≡ last_block a 3 l.head n + block_size l.block_num) × (l.remaining_cap ≤ block_size l.block_num)
 
+-- a list of no block
+unfoldable pub IsEmptyList : ExpUnrolledLinkedList → Type 0
+IsEmptyList l = (l.remaining_cap ≡ 0) × (l.block_num ≡ 2)
+
 -- the bytes of a list
 unfoldable pub list_bytes : Arena → ExpUnrolledLinkedList → List ℕ
 list_bytes a l = bytes_of a l (block_count l)
@@ -131,3 +135,34 @@ pub record ListWrite (old new : Arena) (l m : ExpUnrolledLinkedList) : Type 0 wh
   pub others : KeepsBut old new (list_places old l)
   pub end : top old ≤ top new
   pub full : (k : ℕ) → 32772 ≤ k → IsFull old k → IsFull new k
+
+-- An arena holds a list with these bytes, in these places.
+pub record Holds (a : Arena) (l : ExpUnrolledLinkedList) (bytes : List ℕ) (places : List (ℕ × ℕ)) : Type 0 where
+  pub held : IsHeld a l
+  pub bytes_are : list_bytes a l ≡ bytes
+  pub places_are : list_places a l ≡ places
+
+-- Any arena holds the empty list: no bytes, in no places.
+abbrev pub EmptyIsHeld : Type 0
+EmptyIsHeld = (a : Arena) (l : ExpUnrolledLinkedList) → IsEmptyList l → Holds a l [] []
+
+-- A list whose places are apart from those that changed is held as before, with its bytes and in its places.
+abbrev pub OthersStay : Type 0
+OthersStay =
+    (old new : Arena) (changed : List (ℕ × ℕ)) (l : ExpUnrolledLinkedList) (bytes : List ℕ) (places : List (ℕ × ℕ)) →
+    KeepsBut old new changed → Holds old l bytes places → All (λ r. IsApart r.0 r.1 changed) places → Holds new l bytes places
+
+-- The places of a list were handed out.
+abbrev pub PlacesLie : Type 0
+PlacesLie = (a : Arena) (l : ExpUnrolledLinkedList) (bytes : List ℕ) (places : List (ℕ × ℕ)) → Holds a l bytes places → All (λ r. Lies a r.0 r.1) places
+
+-- What was handed out lies before the top.
+abbrev pub LiesBeforeTop : Type 0
+LiesBeforeTop = (a : Arena) (p n : ℕ) → Lies a p n → p + n ≤ top a
+
+-- A list of so many bytes takes at most three times as many, and twelve.
+abbrev pub RoomIsBounded : Type 0
+RoomIsBounded = (bytes : ℕ) → room bytes ≤ 3 * bytes + 12
+
+abbrev pub RoomGrows : Type 0
+RoomGrows = (fewer more : ℕ) → fewer ≤ more → room fewer ≤ room more

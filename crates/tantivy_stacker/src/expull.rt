@@ -1,7 +1,7 @@
 // Byte lists in an arena.
 ghost use Rattle.std.specs.Prelude.{◌≡◌, ◌≢◌, ℕ, ◌+◌, ◌-◌, ◌^◌, ◌<◌, ◌≤◌, min, List, [], ◌++◌, length, take, drop, IfOk, OnOk, OnErr, IfErr};
 ghost use Rattle.tantivy_stacker.specs.Arena.{Lies, bytes_at, spent, IsAtLimit};
-ghost use Rattle.tantivy_stacker.specs.Lists.{block_size as size_of_block, IsLaidOut, IsHeld, list_bytes, list_places, HasNewBlock, Extends, ListWrite, room};
+ghost use Rattle.tantivy_stacker.specs.Lists.{block_size as size_of_block, IsLaidOut, IsHeld, list_bytes, list_places, HasNewBlock, Extends, ListWrite, room, IsEmptyList};
 
 use crate::{Addr, ArenaError, MemoryArena};
 use std::alloc::AllocError;
@@ -20,8 +20,9 @@ pub struct ExpUnrolledLinkedList {
 }
 
 impl Default for ExpUnrolledLinkedList {
-    ghost is_default = { λ l. (l.remaining_cap ≡ 0) × (l.block_num ≡ 2) };
+    ghost is_default = { IsEmptyList };
 
+    #[tactic(auto, unfolding(crate::specs::Lists::IsEmptyList))]
     fn default() -> Self {
         ExpUnrolledLinkedList {
             remaining_cap: 0,

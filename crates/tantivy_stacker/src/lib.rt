@@ -5,11 +5,13 @@ mod addr;
 mod arena_item;
 mod error;
 mod expull;
+mod laws;
 mod memory_arena;
 mod page;
 
 pub use addr::Addr;
 pub use arena_item::{ArenaItem, load, store};
 pub use error::ArenaError;
-pub use expull::ExpUnrolledLinkedList;
+pub use expull::{ExpUnrolledLinkedList, ExpUnrolledLinkedListWriter};
+pub use laws::{list_laws, room_laws};
 pub use memory_arena::MemoryArena;
