@@ -1,0 +1,15 @@
+//! Values as bytes: serialization, numbers of variable length, slices of files, and writers that count.
+#![tactic(auto)]
+
+mod counting;
+mod key_tracking;
+mod numbers;
+
+pub use counting::CountingWriter;
+pub use key_tracking::{KeyTracking, WithoutKeys};
+pub use numbers::{i64_to_u64, replace_in_place, u64_to_i64};
+pub use owned_bytes::{
+    BytesFile, FileHandle, HandleError, HasLen, Ids, Items, Key, KeyList, MemFile, MemSink,
+    MemSource, OwnedBytes, Sink, SinkError, SliceSource, Source, SourceFault, StdSink, StdSource,
+    Text, Texts, VecSink, WrapFile,
+};
