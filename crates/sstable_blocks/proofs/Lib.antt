@@ -1,3 +1,4 @@
 pub mod VintLaws
 pub mod RisingLaws
 pub mod RangeLaws
+pub mod BlockLaws

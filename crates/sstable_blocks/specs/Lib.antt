@@ -3,3 +3,5 @@ pub mod Values
 pub mod Codec
 pub mod Range
 pub mod Reads
+pub mod Content
+pub mod BlockReader
