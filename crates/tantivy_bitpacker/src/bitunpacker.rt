@@ -1,7 +1,8 @@
 // A reader of numbers packed at one width.
-ghost use Rattle.std.specs.Prelude.{◌≡◌, ◌+◌, ◌*◌, ◌%◌, ◌^◌, ◌<◌, ◌≤◌, ◌++◌, ◌-◌, length, drop, replicate};
+ghost use Rattle.std.specs.Prelude.{◌≡◌, ◌+◌, ◌*◌, ◌%◌, ◌^◌, ◌<◌, ◌≤◌, ◌++◌, ◌-◌, length, take, drop, replicate};
 ghost use Rattle.tantivy_bitpacker.specs.Packed.{as_number, bits_from, unpacked_from};
 
+use crate::groups::unpack_groups_of;
 use std::marker::Model;
 
 /// Reads numbers that are packed at one width, of 0 to 56 bits or of 64.
@@ -53,6 +54,75 @@ impl BitUnpacker {
     {
         let place = idx as usize * self.num_bits as usize;
         (word_at(place / 8, bytes) >> (place % 8)) & self.mask
+    }
+
+    /// The numbers from the place `start_idx` on, as many as `output` holds.
+    pub fn get_range(&self, start_idx: u32, bytes: &[u8], output: &mut [u64])
+        requires places { start_idx + length output.old ≤ 2 ^ 32 }
+        requires within { (start_idx + length output.old) * self.now ≤ 8 * length bytes.now }
+        ensures { output.new ≡ unpacked_from start_idx (length output.old) self.now bytes.now }
+    {
+        let start = start_idx as usize;
+        let count = output.len();
+        let lead = ((8 - start % 8) % 8).min(count);
+        self.get_each(start, 0, lead, bytes, output);
+        let end = self.get_groups(start, lead, bytes, output);
+        self.get_each(start, end, count, bytes, output);
+    }
+
+    // Decodes the numbers from `from` to `to` of those from `start` on, one by one.
+    #[inline]
+    fn get_each(&self, start: usize, from: usize, to: usize, bytes: &[u8], output: &mut [u64])
+        requires ordered { from ≤ to }
+        requires inside { to ≤ length output.old }
+        requires places { start + length output.old ≤ 2 ^ 32 }
+        requires within { (start + length output.old) * self.now ≤ 8 * length bytes.now }
+        ensures { take to output.new ≡ take from output.old ++ unpacked_from (start + from) (to - from) self.now bytes.now }
+    {
+        for i in from..to {
+            output[i] = self.get((start + i) as u32, bytes);
+        }
+    }
+
+    // Decodes the groups of eight from `from` on that begin with a whole byte and have a word of bytes left behind
+    // them, and answers where they end.
+    fn get_groups(&self, start: usize, from: usize, bytes: &[u8], output: &mut [u64]) -> usize
+        requires inside { from ≤ length output.old }
+        requires places { start + length output.old ≤ 2 ^ 32 }
+        requires within { (start + length output.old) * self.now ≤ 8 * length bytes.now }
+        ensures after { from ≤ result }
+        ensures bound { result ≤ length output.old }
+        ensures decoded { take result output.new ≡ take from output.old ++ unpacked_from (start + from) (result - from) self.now bytes.now }
+    {
+        let first = start + from;
+        if self.num_bits > 56 || first % 8 != 0 {
+            return from;
+        }
+        let width = self.num_bits as usize;
+        let (_, rest) = bytes.split_at(first / 8 * width);
+        let groups = groups_within(width, rest.len(), output.len() - from);
+        if groups == 0 {
+            return from;
+        }
+        unpack_groups_of(self.num_bits, rest, groups, from, output);
+        from + 8 * groups
+    }
+}
+
+// How many groups of eight of so many numbers lie within so many bytes with a word of bytes left behind them.
+fn groups_within(width: usize, bytes: usize, count: usize) -> usize
+    requires { width ≤ 56 }
+    ensures few { 8 * result ≤ count }
+    ensures room { 0 < result → result * width + 8 ≤ bytes }
+{
+    if bytes < 8 {
+        return 0;
+    }
+    let groups = count / 8;
+    if width == 0 || groups <= (bytes - 8) / width {
+        groups
+    } else {
+        (bytes - 8) / width
     }
 }
 
