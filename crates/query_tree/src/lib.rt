@@ -1,0 +1,16 @@
+//! The trees of queries, and what a query text means.
+#![tactic(auto)]
+
+mod answer;
+mod copies;
+mod fields;
+mod item;
+mod tree;
+
+pub use answer::{Error, ParseError};
+pub use fields::{leaf_under_field, under_field};
+pub use item::{Item, Operand};
+pub use tree::{
+    Clauses, Decimal, Delimiter, Occur, UserInputAst, UserInputBound, UserInputLeaf,
+    UserInputLiteral,
+};
