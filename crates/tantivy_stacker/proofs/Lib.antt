@@ -10,3 +10,5 @@ pub mod Halves
 pub mod Tables
 pub mod Hashes
 pub mod Entries
+pub mod Inserting
+pub mod Maps

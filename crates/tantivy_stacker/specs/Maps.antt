@@ -1,7 +1,7 @@
 -- Hash maps in an arena: a table of places, each free or taken by an entry, and the entries in the arena.
 use Rattle.std.specs.Prelude.{◌≡◌, ◌≢◌, ℕ, ◌+◌, ◌-◌, ◌*◌, ◌<◌, ◌≤◌, ◌==◌, ◌⊎◌, ⊤, Bool, not, nat_lt, List, [], ◌∷◌, ◌++◌, length, map, filter, count_by, slice_index_or, slice_set, bit_and, Option, Some, None, MatchOption, if◌then◌else◌}
 use Rattle.std.specs.Int.{w16, from_le_bytes}
-use Rattle.tantivy_stacker.specs.Arena.{Arena, Lies, bytes_at}
+use Rattle.tantivy_stacker.specs.Arena.{Arena, Lies, bytes_at, top, spent, IsFull, Keeps}
 use Rattle.tantivy_stacker.specs.Hashing.{hash_of}
 
 -- A table: the address of an entry and its hash at each place, or the null address, and how many places are taken.
@@ -74,3 +74,19 @@ pub record HasEntry {V : Type 0} (size : ℕ) (item : List ℕ → V) (a : Arena
 -- what a map has at a key
 abbrev pub Finds : {V : Type 0} → ℕ → (List ℕ → V) → Arena → Table → List ℕ → Option V → Type 0
 Finds size item a t key found = MatchOption found ((i : ℕ) → IsTaken t.places i → key_at a (place t.places i).0 ≢ key) (HasEntry size item a t key)
+
+-- An entry was written at e, and nothing else changed: its key and its value.
+pub record EntryWritten {V : Type 0} (size : ℕ) (item : List ℕ → V) (old new : Arena) (e : ℕ) (key : List ℕ) (v : V) : Type 0 where
+  pub keeps : Keeps old new e (e + (2 + length key + size))
+  pub length_is : key_length new e ≡ length key
+  pub key_is : key_at new e ≡ key
+  pub value_is : item (bytes_at new (value_place new e) size) ≡ v
+  pub end : top new ≡ top old
+  pub spends : spent new ≡ spent old
+  pub full : (m : ℕ) → IsFull old m → IsFull new m
+
+-- After a call a map has this value at a key, and all else as before.
+pub record MapPuts {V : Type 0} (size : ℕ) (item : List ℕ → V) (old new : Arena) (t u : Table) (key : List ℕ) (v : V) : Type 0 where
+  pub entry : HasEntry size item new u key v
+  pub kept : (k : List ℕ) (w : V) → k ≢ key → HasEntry size item old t k w → HasEntry size item new u k w
+  pub only : (k : List ℕ) (w : V) → k ≢ key → HasEntry size item new u k w → HasEntry size item old t k w
