@@ -1,0 +1,4 @@
+pub mod Takings
+pub mod Groups
+pub mod FromSources
+pub mod VintLaws

@@ -2,10 +2,14 @@
 #![tactic(auto)]
 
 mod counting;
+mod error;
 mod key_tracking;
 mod numbers;
+mod reading;
+mod vint;
 
 pub use counting::CountingWriter;
+pub use error::WireError;
 pub use key_tracking::{KeyTracking, WithoutKeys};
 pub use numbers::{i64_to_u64, replace_in_place, u64_to_i64};
 pub use owned_bytes::{
@@ -13,3 +17,4 @@ pub use owned_bytes::{
     MemSource, OwnedBytes, Sink, SinkError, SliceSource, Source, SourceFault, StdSink, StdSource,
     Text, Texts, VecSink, WrapFile,
 };
+pub use vint::VInt;

@@ -2,10 +2,13 @@
 #![tactic(auto)]
 
 mod answer;
+mod copies;
+mod fields;
 mod item;
 mod tree;
 
 pub use answer::{Error, ParseError};
+pub use fields::{leaf_under_field, under_field};
 pub use item::{Item, Operand};
 pub use tree::{
     Clauses, Decimal, Delimiter, Occur, UserInputAst, UserInputBound, UserInputLeaf,

@@ -9,16 +9,16 @@ use Rattle.sstable_blocks.specs.declared.errors.BlockError.TheVariants.{Corrupt,
 use Rattle.sstable_blocks.specs.Content.{Found, content_after, block_at}
 
 -- a test that found no fault
-no_fault : (b : Bool) (e : BlockError) (r : Found) (x : Option (List ℕ × List ℕ)) → cond b (Err e) r ≡ Ok x → (b ≡ false) × (r ≡ Ok x)
+pub no_fault : (b : Bool) (e : BlockError) (r : Found) (x : Option (List ℕ × List ℕ)) → cond b (Err e) r ≡ Ok x → (b ≡ false) × (r ≡ Ok x)
 no_fault true e r x h = absurd cc
 no_fault false e r x h = (refl, h)
 
 -- a test that found no end
-no_end : (b : Bool) (r : Found) (x : List ℕ × List ℕ) → cond b (Ok None) r ≡ Ok (Some x) → (b ≡ false) × (r ≡ Ok (Some x))
+pub no_end : (b : Bool) (r : Found) (x : List ℕ × List ℕ) → cond b (Ok None) r ≡ Ok (Some x) → (b ≡ false) × (r ≡ Ok (Some x))
 no_end true r x h = absurd cc
 no_end false r x h = (refl, h)
 
-found-is : (x y : List ℕ × List ℕ) → ◌≡◌ {A = Found} (Ok (Some x)) (Ok (Some y)) → x ≡ y
+pub found-is : (x y : List ℕ × List ℕ) → ◌≡◌ {A = Found} (Ok (Some x)) (Ok (Some y)) → x ≡ y
 found-is x y h = cc
 
 -- where the content and the rest stand

@@ -9,6 +9,10 @@ use Rattle.sstable_blocks.specs.Vint.{vint, vint_at}
 use Rattle.sstable_blocks.proofs.VintLaws.{vint-again}
 use Rattle.sstable_blocks.specs.Codec.{never_falls, sums, rising_numbers, sums_at, rising_numbers_at}
 
+pub provided-true : (b : Bool) (x : Unit {0}) → provided b ≡ Some x → b ≡ true
+provided-true true x e = refl
+provided-true false x e = absurd cc
+
 pub both-true : (a b : Bool) → (a && b) ≡ true → (a ≡ true) × (b ≡ true)
 both-true true b e = (refl, e)
 both-true false b e = cc

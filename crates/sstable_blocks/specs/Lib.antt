@@ -5,3 +5,11 @@ pub mod Range
 pub mod Reads
 pub mod Content
 pub mod BlockReader
+pub mod Delta
+pub mod Block
+pub mod Run
+pub mod Entries
+pub mod BlockSteps
+pub mod DeltaReader
+pub mod Computes
+pub mod Hex

@@ -79,7 +79,8 @@ impl BlockReader {
 
     /// Goes to the next block; false at the end of the bytes, or at a length word of 0 or 1.
     pub fn read_block(&mut self) -> Result<bool, BlockError>
-        ensures { ReadsBlock self.old self.new result }
+        ensures read { ReadsBlock self.old self.new result }
+        ensures placed { self.new.place < 2 ^ 64 }
     {
         let place = self.start + self.next as u64;
         self.begin = self.next;

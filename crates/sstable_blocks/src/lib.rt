@@ -6,12 +6,14 @@
 #![tactic(auto)]
 
 mod block_reader;
+mod delta_reader;
 mod errors;
 mod range;
 mod value;
 pub mod vint;
 
 pub use block_reader::BlockReader;
+pub use delta_reader::DeltaReader;
 pub use errors::{BlockError, ValueError};
 pub use range::{RangeValueReader, RangeValueWriter};
 pub use value::{StoredValue, ValueReader, ValueWriter};

@@ -15,7 +15,13 @@ invariant_of-self-2 c =
     let within = block-within c.self.inside.reader c.in-Ok-Some.content.now c.in-Ok-Some._rest.now _ c.self.inside.next c.self.invariant.within read in
     record { begun = omega arith; unread = omega arith; within = within; placed = c.self.invariant.placed }
 
-pub returns : goal.returns
-returns c =
+pub returns-clause-read : goal.returns-clause-read
+returns-clause-read c =
     let read = rw (c.in-Ok-Some.field-0-is, c.as_slice.ensures, rest_is c.self.inside.next c.self.inside.reader) at c.in-Ok-Some.ensures in
     rw (← c.self.view_is) (goes_on c.self.inside.reader c.in-Ok-Some.content.now c.in-Ok-Some._rest.now c.self.inside.start c.self.inside.next c.self.invariant.within read)
+
+pub returns-clause-placed : goal.returns-clause-placed
+returns-clause-placed c =
+    let read = rw (c.in-Ok-Some.field-0-is, c.as_slice.ensures, rest_is c.self.inside.next c.self.inside.reader) at c.in-Ok-Some.ensures in
+    let within = block-within c.self.inside.reader c.in-Ok-Some.content.now c.in-Ok-Some._rest.now _ c.self.inside.next c.self.invariant.within read in
+    omega (arith, within, c.self.invariant.placed)

@@ -1,0 +1,6 @@
+use Rattle.std.specs.FinSet.{union}
+use Rattle.common_bitset.proofs.WordLoops.{Applied}
+use Rattle.common_bitset.proofs.words.unite.Given as goal
+
+abbrev pub invariant-loop-k : goal.invariant-loop-k
+invariant-loop-k l = Applied union l.initial.left l.right l.left l.k l.count
