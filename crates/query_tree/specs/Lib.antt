@@ -7,3 +7,4 @@ pub mod Answer
 pub mod Printing
 pub mod Texts
 pub mod Json
+pub mod Groups
