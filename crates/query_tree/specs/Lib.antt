@@ -8,3 +8,4 @@ pub mod Printing
 pub mod Texts
 pub mod Json
 pub mod Groups
+pub mod Building

@@ -3,6 +3,7 @@
 
 mod aggregating;
 mod answer;
+mod building;
 mod copies;
 mod decimal;
 mod fields;
