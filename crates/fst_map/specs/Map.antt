@@ -1,0 +1,37 @@
+-- A map from keys to numbers: how many, an end and a value for each key, and the keys one after the other.
+use Rattle.std.specs.Prelude.{ℕ, ◌-◌, List, [], ◌∷◌, map, Option, Some, None, nat_le}
+use Rattle.std.specs.Int.{w64}
+use Rattle.owned_bytes.specs.Front.{Reading, ◌>>=◌, provided, number_at, bytes_at, counted}
+use Rattle.owned_bytes.specs.Keys.{Key, is_rising}
+use Rattle.owned_bytes.specs.Computes as bytes
+
+-- where a key ends in the key area, and its value
+abbrev pub end_and_value_at : Reading (ℕ × ℕ)
+end_and_value_at bytes = do
+  end ← number_at w64 bytes
+  value ← number_at w64 end.1
+  Some ((end.0, value.0), value.1)
+
+-- the keys of the area from a place on, with their values; nothing follows the last one
+unfoldable pub keys_from : ℕ → List (ℕ × ℕ) → List ℕ → Option (List (Key × ℕ))
+keys_from start [] [] = Some []
+keys_from start [] (b ∷ area) = None
+keys_from start (one ∷ ends) area = do
+  _ ← provided (nat_le start one.0)
+  key ← bytes_at (one.0 - start) area
+  others ← keys_from one.0 ends key.1
+  Some ((key.0, one.1) ∷ others)
+
+-- the keys and values of a map, all of the bytes
+unfoldable pub map_of : List ℕ → Option (List (Key × ℕ))
+map_of bytes = do
+  count ← number_at w64 bytes
+  ends ← counted count.0 end_and_value_at count.1
+  entries ← keys_from 0 ends.0 ends.1
+  _ ← provided (is_rising (map (λ entry. entry.0) entries))
+  Some entries
+
+-- A line 'unfolding computes' lets the definitions of this crate compute.
+unfoldable pub computes : Unit {0}
+unfolding bytes.computes keys_from map_of
+computes = tt

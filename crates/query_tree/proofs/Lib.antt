@@ -1,0 +1,6 @@
+pub mod Plain
+pub mod Equations
+pub mod Levels
+pub mod ReadAgain
+pub mod Computes
+pub mod Equality

@@ -1,0 +1,3 @@
+pub mod VintLaws
+pub mod RisingLaws
+pub mod RangeLaws

@@ -1,0 +1,15 @@
+//! Blocks of sorted keys with values: the lower half of the sstable format.
+//!
+//! A block is a `u32` length, which counts all that follows, a compress byte 0, the block's values as their codec
+//! writes them, and its keys. A key is stored as the number of bytes that it keeps of the key before it and the bytes
+//! that it adds: in one byte `keep + 16 * add` where both are below 16, else as byte 1 and two `vint`s; then the bytes.
+#![tactic(auto)]
+
+mod errors;
+mod range;
+mod value;
+pub mod vint;
+
+pub use errors::{BlockError, ValueError};
+pub use range::{RangeValueReader, RangeValueWriter};
+pub use value::{StoredValue, ValueReader, ValueWriter};
