@@ -1,5 +1,5 @@
 -- A printed conjunction is the text of its terms, and means that each of them is held.
-use Rattle.std.proofs.Common.{◌≡◌, ◌≢◌, ℕ, suc, Bool, List, [], ◌∷◌, ◌++◌, refl, sym, ap, ◌∙◌, arith, append_assoc, append-nil, Box, Global}
+use Rattle.std.proofs.Common.{◌≡◌, ◌≢◌, ◌<◌, ◌⊎◌, inl, inr, get_or, ℕ, zero, suc, Bool, List, [], ◌∷◌, ◌++◌, refl, sym, ap, ◌∙◌, arith, append_assoc, append-nil, Box, Global}
 use denote.RawPtr.{null_ptr}
 use Rattle.std.specs.Prelude.{All, codes, ◌&&◌, true}
 use Rattle.std.specs.List.{list_all}
@@ -146,3 +146,41 @@ module _ (alloc : Global) where
   pub spelled_is_printed : (text : List ℕ) (pairs : List Pair) → Spells text pairs → (e : Expr) × IsPrinted text e
   spelled_is_printed text [] spells = absurd spells
   spelled_is_printed text (pair ∷ rest) spells = (conjunction_of pair rest, (conjunction_of-IsConjunction pair rest spells.0, spells.1 ∙ sym (conjunction_of-printed pair rest)))
+
+-- what stands behind the first leaf of a text that spells pairs
+leaf_in_front : (p : Pair) (ps : List Pair) → conjunction_text p ps ≡ leaf_text p.field p.term ++ (elim ps [ [] ↦ [] | next ∷ rest ↦ codes " AND " ++ conjunction_text next rest ])
+leaf_in_front p [] = sym (append-nil (leaf_text p.field p.term))
+leaf_in_front p (next ∷ rest) = append_assoc (leaf_text p.field p.term) (codes " AND ") (conjunction_text next rest)
+
+-- a text that does not begin with a simple leaf spells nothing
+pub no_leaf-no_pairs : (text : List ℕ) → ((pair : Pair) (tail : List ℕ) → IsSimple pair → text ≡ leaf_text pair.field pair.term ++ tail → ⊥) → (pairs : List Pair) → Spells text pairs → ⊥
+no_leaf-no_pairs text none [] spells = absurd spells
+no_leaf-no_pairs text none (p ∷ ps) spells = none p _ (first_of_all p ps spells.0) (spells.1 ∙ leaf_in_front p ps)
+
+module _ (text : List ℕ) (p : Pair) (tail : List ℕ) (simple : IsSimple p) (is : text ≡ leaf_text p.field p.term ++ tail) where
+  pub leaf-Spells : tail ≡ [] → Spells text (p ∷ [])
+  leaf-Spells none = ((λ k d within. elim_one k d within), is ∙ ap (λ t. leaf_text p.field p.term ++ t) none ∙ append-nil (leaf_text p.field p.term))
+    where
+      elim_one : (k : ℕ) (d : Pair) → k < 1 → IsSimple (get_or (p ∷ []) k d)
+      elim_one zero d within = simple
+      elim_one (suc k) d within = absurd (omega arith)
+
+  pub leaf-Spells-more : (next : List ℕ) (more : List Pair) → tail ≡ codes " AND " ++ next → Spells next more → Spells text (p ∷ more)
+  leaf-Spells-more next [] joined spells = absurd spells
+  leaf-Spells-more next (q ∷ qs) joined spells =
+      (All-append IsSimple (p ∷ []) (q ∷ qs) (λ k d within. simple_one k d within) spells.0,
+        is ∙ ap (λ t. leaf_text p.field p.term ++ t) (joined ∙ ap (λ t. codes " AND " ++ t) spells.1) ∙ sym (append_assoc (leaf_text p.field p.term) (codes " AND ") (conjunction_text q qs)))
+    where
+      simple_one : (k : ℕ) (d : Pair) → k < 1 → IsSimple (get_or (p ∷ []) k d)
+      simple_one zero d within = simple
+      simple_one (suc k) d within = absurd (omega arith)
+
+  -- what the text spells is that leaf alone, or that leaf and what stands behind ` AND `
+  pub Spells-leaf : (pairs : List Pair) → Spells text pairs → (tail ≡ []) ⊎ ((next : List ℕ) × (more : List Pair) × (tail ≡ codes " AND " ++ next) × Spells next more × (pairs ≡ p ∷ more))
+  Spells-leaf [] spells = absurd spells
+  Spells-leaf (q ∷ []) spells =
+      let one = leaf_once q p [] tail (first_of_all q [] spells.0) simple (sym (leaf_in_front q []) ∙ sym spells.1 ∙ is) in
+      inl (sym one.1)
+  Spells-leaf (q ∷ n ∷ qs) spells =
+      let one = leaf_once q p (codes " AND " ++ conjunction_text n qs) tail (first_of_all q (n ∷ qs) spells.0) simple (sym (leaf_in_front q (n ∷ qs)) ∙ sym spells.1 ∙ is) in
+      inr (conjunction_text n qs, (n ∷ qs), sym one.1, (rest_of_all q (n ∷ qs) spells.0, refl), (λ i. one.0 i ∷ n ∷ qs))
