@@ -8,6 +8,8 @@ mod outcome;
 mod query;
 mod question;
 mod reading;
+#[cfg(test)]
+mod tests;
 mod words;
 
 pub use command::run;

@@ -7,11 +7,15 @@ use owned_bytes::Text;
 use serde_json::{Map, Value};
 use std::alloc::{AllocError, Global};
 use term_search::{Doc, Pair, Pairs};
+use thiserror::Error;
 
 /// Why there are no documents.
-#[derive(Clone, Copy, Debug, PartialEq, Eq)]
+#[derive(Clone, Copy, Debug, PartialEq, Eq, Error)]
 pub enum DocumentsError {
+    #[error("out of memory")]
     Memory,
+    /// The bytes are no UTF-8, no JSON, or JSON of another shape.
+    #[error("the bytes are no documents")]
     Bad,
 }
 

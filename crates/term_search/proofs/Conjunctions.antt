@@ -167,9 +167,10 @@ module _ (text : List ℕ) (p : Pair) (tail : List ℕ) (simple : IsSimple p) (i
 
   pub leaf-Spells-more : (next : List ℕ) (more : List Pair) → tail ≡ codes " AND " ++ next → Spells next more → Spells text (p ∷ more)
   leaf-Spells-more next [] joined spells = absurd spells
-  leaf-Spells-more next (q ∷ qs) joined spells =
-      (All-append IsSimple (p ∷ []) (q ∷ qs) (λ k d within. simple_one k d within) spells.0,
-        is ∙ ap (λ t. leaf_text p.field p.term ++ t) (joined ∙ ap (λ t. codes " AND " ++ t) spells.1) ∙ sym (append_assoc (leaf_text p.field p.term) (codes " AND ") (conjunction_text q qs)))
+  leaf-Spells-more next (q ∷ qs) joined spells = (
+    All-append IsSimple (p ∷ []) (q ∷ qs) (λ k d within. simple_one k d within) spells.0,
+    is ∙ ap (λ t. leaf_text p.field p.term ++ t) (joined ∙ ap (λ t. codes " AND " ++ t) spells.1) ∙ sym (append_assoc (leaf_text p.field p.term) (codes " AND ") (conjunction_text q qs)),
+  )
     where
       simple_one : (k : ℕ) (d : Pair) → k < 1 → IsSimple (get_or (p ∷ []) k d)
       simple_one zero d within = simple

@@ -5,6 +5,8 @@ mod ask;
 mod documents;
 mod expr;
 mod faults;
+#[cfg(test)]
+mod tests;
 
 pub use ask::ask_pairs;
 pub use documents::{Doc, Pair, Pairs};
