@@ -1,0 +1,4 @@
+pub mod Documents
+pub mod Expressions
+pub mod Postings
+pub mod Printed
