@@ -2,10 +2,10 @@
 use Rattle.std.proofs.Common.{◌≡◌, ◌≢◌, ◌<◌, ◌≤◌, ◌⊎◌, inl, inr, ℕ, List, length, Option, Some, None, IfSome, Global, sym, ap, ◌∙◌, subst, refl, arith}
 use Rattle.std.specs.Io.KnownBytes.{Appends, Keeps}
 use Rattle.owned_bytes.specs.Outside.{AppendsPrefix}
-use Rattle.term_search.specs.declared.documents.Doc.{Doc}
-use Rattle.term_search.specs.declared.documents.Pair.{Pair}
-use Rattle.term_search.specs.declared.expr.Expr.{Expr}
-use Rattle.term_search.specs.Documents.{numbers_where, holds_all, documents_size}
+use Rattle.term_documents.specs.declared.documents.Doc.{Doc}
+use Rattle.term_documents.specs.declared.documents.Pair.{Pair}
+use Rattle.term_documents.specs.declared.expr.Expr.{Expr}
+use Rattle.term_documents.specs.Documents.{numbers_where, holds_all, documents_size}
 use Rattle.term_search.specs.Printed.{IsPrinted, IsConjunction, printed, conjuncts, Spells}
 use Rattle.term_search.proofs.Conjunctions.{Spells-printed, spells_once, spelled_is_printed, numbers-conjuncts}
 use Rattle.term_index.specs.declared.outcome.Outcome.{Outcome}
