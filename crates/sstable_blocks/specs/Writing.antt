@@ -1,5 +1,5 @@
 -- How a writer gathers the entries of blocks.
-use Rattle.std.specs.Prelude.{◌≡◌, ◌≢◌, ℕ, ◌+◌, ◌-◌, ◌^◌, ◌<◌, ◌≤◌, min, List, [], ◌∷◌, ◌++◌, length, drop, map, unwrap_or, Option, Some, None, Result, Ok, Err, IsTrue}
+use Rattle.std.specs.Prelude.{◌≡◌, ◌≢◌, ℕ, ◌+◌, ◌-◌, ◌^◌, ◌<◌, ◌≤◌, min, List, [], ◌∷◌, ◌++◌, length, drop, map, unwrap_or, Option, Some, None, Result, Ok, Err, true, IsTrue}
 use Rattle.std.specs.List.{flat_map}
 use Rattle.std.specs.Io.KnownBytes.{Appends, Keeps}
 use Rattle.std.specs.declared.ops.Range.{Range}
@@ -11,7 +11,8 @@ use Rattle.sstable_blocks.specs.Values.{Values, HasNone}
 use Rattle.sstable_blocks.specs.Codec.{Codec}
 use Rattle.sstable_blocks.specs.Content.{block}
 use Rattle.sstable_blocks.specs.Block.{delta, deltas_between, paired}
-use Rattle.sstable_blocks.specs.Run.{last_key}
+use Rattle.sstable_blocks.specs.Run.{Block, last_key, may_follow, entries_of}
+unfoldable use Rattle.sstable_blocks.specs.Run.{whole_run_of}
 
 -- What a writer of blocks shows.
 pub record WriterState (V : Type 0) : Type 0 where
@@ -71,3 +72,10 @@ abbrev pub Flushes : {V : Type 0} → Codec V → WriterState V → WriterState 
 Flushes codec old new (Ok None) = (old.deltas ≡ []) × (new ≡ old)
 Flushes codec old new (Ok (Some range)) = WritesBlock codec old new range
 Flushes codec old new (Err e) = KeepsBlock codec old new e
+
+-- Behind a run that ends with the bytes, the open block is one more block of the run.
+abbrev pub AddsToRun : {V : Type 0} → Codec V → WriterState V → Type 0
+AddsToRun {V} codec state =
+    (bytes : List ℕ) (blocks : List (Block V)) (entries : List (Key × V)) → IsOpen state entries
+    → whole_run_of codec bytes ≡ Some (record { blocks = blocks; rest = [] }) → may_follow (last_key (entries_of blocks)) entries ≡ true
+    → whole_run_of codec (bytes ++ block (content codec state)) ≡ Some (record { blocks = blocks ++ record { content = content codec state; entries = entries } ∷ []; rest = [] })

@@ -90,8 +90,7 @@ pub struct DeltaWriter<W, T> {
 impl<W: Sink, T: ValueWriter + Drop> DeltaWriter<W, T> {
     ghost use Rattle.owned_bytes.specs.Keys.{Key};
     ghost use Rattle.sstable_blocks.specs.Values.{Gains, HasNone};
-    ghost use Rattle.sstable_blocks.specs.Run.{Block, whole_run_of, last_key, may_follow, entries_of};
-    ghost use Rattle.sstable_blocks.specs.Writing.{IsOpen, IsNext, Flushes, content};
+    ghost use Rattle.sstable_blocks.specs.Writing.{IsOpen, IsNext, Flushes, AddsToRun};
     ghost use Rattle.sstable_blocks.specs.DeltaWriter.{state, sink_of};
 
     /// A writer with an empty block, which is closed once its deltas have more than 4,000 bytes.
@@ -183,8 +182,10 @@ impl<W: Sink, T: ValueWriter + Drop> DeltaWriter<W, T> {
     pub fn flush_block(&mut self) -> Result<Option<Range<u64>>, DeltaError>
         ensures flushes { let old = state T.written W.written W.faults self.old in let new = state T.written W.written W.faults self.new in Flushes T.codec old new result }
         ensures cause { let old = state T.written W.written W.faults self.old in let new = state T.written W.written W.faults self.new in HasCause old.faults new.faults (result ≡ Err DeltaError.Write) }
+        // The next block is empty.
+        ensures next { let new = state T.written W.written W.faults self.new in IfOk result (λ range. OnSome range (IsOpen new [])) }
         // Behind a run that ends with the bytes, the block is one more block of the run.
-        ensures run { let old = state T.written W.written W.faults self.old in IfOk result (λ range. OnSome range ((bytes : List ℕ) (blocks : List (Block T.Value.Shown)) (entries : List (Key × T.Value.Shown)) → IsOpen old entries → whole_run_of T.codec bytes ≡ Some (record { blocks = blocks; rest = [] }) → may_follow (last_key (entries_of blocks)) entries ≡ true → whole_run_of T.codec (bytes ++ block (content T.codec old)) ≡ Some (record { blocks = blocks ++ record { content = content T.codec old; entries = entries } ∷ []; rest = [] }))) }
+        ensures run { let old = state T.written W.written W.faults self.old in IfOk result (λ range. OnSome range (AddsToRun T.codec old)) }
     {
         if self.block.is_empty() {
             return Ok(None);
@@ -212,7 +213,9 @@ impl<W: Sink, T: ValueWriter + Drop> DeltaWriter<W, T> {
         ensures due { let old = state T.written W.written W.faults self.old in let new = state T.written W.written W.faults self.new in old.block_len < length old.deltas → Flushes T.codec old new result }
         ensures not_due { let old = state T.written W.written W.faults self.old in let new = state T.written W.written W.faults self.new in length old.deltas ≤ old.block_len → (result ≡ Ok None) × (new ≡ old) }
         ensures cause { let old = state T.written W.written W.faults self.old in let new = state T.written W.written W.faults self.new in HasCause old.faults new.faults (result ≡ Err DeltaError.Write) }
-        ensures run { let old = state T.written W.written W.faults self.old in IfOk result (λ range. OnSome range ((bytes : List ℕ) (blocks : List (Block T.Value.Shown)) (entries : List (Key × T.Value.Shown)) → IsOpen old entries → whole_run_of T.codec bytes ≡ Some (record { blocks = blocks; rest = [] }) → may_follow (last_key (entries_of blocks)) entries ≡ true → whole_run_of T.codec (bytes ++ block (content T.codec old)) ≡ Some (record { blocks = blocks ++ record { content = content T.codec old; entries = entries } ∷ []; rest = [] }))) }
+        // The next block is empty.
+        ensures next { let new = state T.written W.written W.faults self.new in IfOk result (λ range. OnSome range (IsOpen new [])) }
+        ensures run { let old = state T.written W.written W.faults self.old in IfOk result (λ range. OnSome range (AddsToRun T.codec old)) }
     {
         if self.block.len() > self.block_len {
             return self.flush_block();
