@@ -4,3 +4,4 @@ pub mod Opens
 pub mod ReadingLaws
 pub mod RisingRuns
 pub mod Seeking
+pub mod Keeping

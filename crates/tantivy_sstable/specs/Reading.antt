@@ -1,5 +1,5 @@
 -- How a reader goes over the entries of a table.
-use Rattle.std.specs.Prelude.{◌≡◌, ℕ, ◌+◌, ◌-◌, ◌*◌, ◌^◌, length, List, [], ◌∷◌, Option, Some, None, unwrap_or, option_map, map, Result, Ok, Err, Bool, true, false}
+use Rattle.std.specs.Prelude.{◌⊎◌, ◌≡◌, ℕ, ◌+◌, ◌-◌, ◌*◌, ◌^◌, length, List, [], ◌∷◌, Option, Some, None, unwrap_or, option_map, map, Result, Ok, Err, Bool, true, false}
 use Rattle.owned_bytes.specs.Keys.{Key}
 unfoldable use Rattle.owned_bytes.specs.Keys.{is_rising}
 unfoldable use Rattle.tantivy_sstable.specs.Between.{value_at}
@@ -68,3 +68,18 @@ IsLookupError (errors.Compressed place) = Unit {0}
 IsLookupError errors.Read = ⊥
 IsLookupError (errors.Version version) = ⊥
 IsLookupError errors.NotYet = ⊥
+
+-- what a look-up answers, where the entries are told
+abbrev pub FindsTold : {V W : Type 0} → (W → V) → Option (List (Key × V)) → Key → Result (Option W) SstError → Type 0
+FindsTold shown None key result = Unit {0}
+FindsTold shown (Some entries) key (Ok found) = option_map shown found ≡ value_at key entries
+FindsTold shown (Some entries) key (Err error) = (error ≡ errors.Memory) ⊎ (error ≡ errors.Read)
+
+-- why a look-up in a file fails
+abbrev pub IsReadingError : SstError → Type 0
+IsReadingError errors.Memory = Unit {0}
+IsReadingError errors.Corrupt = Unit {0}
+IsReadingError (errors.Compressed place) = Unit {0}
+IsReadingError errors.Read = Unit {0}
+IsReadingError (errors.Version version) = ⊥
+IsReadingError errors.NotYet = ⊥
