@@ -1,13 +1,13 @@
 -- Takings from a source, one after the other.
-use Rattle.std.proofs.Common.{◌≡◌, ℕ, zero, suc, ◌+◌, ◌-◌, ◌*◌, ◌^◌, ◌<◌, ◌≤◌, List, [], ◌∷◌, ◌++◌, length, Bool, true, false, None, Some, Option, Result, Ok, Err, refl, ap, sym, add-one, ◌∙◌, subst, arith, append_assoc, length-append}
+use Rattle.std.proofs.Common.{◌≡◌, ℕ, suc, ◌+◌, ◌-◌, ◌*◌, ◌<◌, ◌≤◌, List, [], ◌∷◌, ◌++◌, length, None, Some, Option, Result, Ok, Err, refl, ap, sym, add-one, ◌∙◌, subst, arith, append_assoc, length-append}
 use Rattle.std.specs.Prelude.{nat_lt, if◌then◌else◌}
-use Rattle.common_wire.specs.Taking.{Taken, Value, Cut, Wrong, Taking, continued, ◌>>=◌, give, refuse, only_if, byte, bytes_of}
+use Rattle.common_wire.specs.Taking.{Taken, Value, Cut, Wrong, Taking, continued, ◌>>=◌, give, refuse, byte}
 use Rattle.common_wire.specs.Wire.{groups}
-use Rattle.common_wire.specs.Serialized.{limit, IsTaking, IsCause, StopsAt, Takes}
+use Rattle.common_wire.specs.Serialized.{limit, IsTaking, IsCause, Takes}
 use Rattle.common_wire.specs.declared.error.WireError.{WireError}
 use Rattle.common_wire.specs.declared.error.WireError.TheVariants.{Memory, Ended, Invalid, Failed}
-use Rattle.common_wire.proofs.Takings.{continued_value, value_is, IsTaking-give, IsTaking-then, IsTaking-if}
-use Rattle.common_wire.proofs.Groups.{groups-last, groups-more, groups-none, IsTaking-groups, group_below, limit-rising}
+use Rattle.common_wire.specs.TakingLaws.{continued_value, value_is, IsTaking-give, IsTaking-then, IsTaking-if}
+use Rattle.common_wire.specs.GroupLaws.{groups-last, groups-more, groups-none, IsTaking-groups, group_below, limit-rising}
 
 -- a source went on from the whole taking to what is left of it
 pub record GoneOn {A : Type 0} (whole rest : Taking A) (bytes left : List ℕ) : Type 0 where
@@ -214,7 +214,7 @@ pub GroupsRead-long : {T A : Type 0} (shown : T → A) (whole : Taking A) (done 
 GroupsRead-long shown whole done left i value scale b old now next p one small took =
     let more = GroupsRead-more whole done left 0 i value scale b old now next p one small took in
     Takes-whole shown whole refuse old next next (Err Invalid)
-      (GoesOn-trans whole (after done (value + scale * b) (scale * 128) 0) refuse old next next more.goes_on (GoesOn-none done (value + scale * b) (scale * 128) next)) (Takes-refuse shown next)
+    (GoesOn-trans whole (after done (value + scale * b) (scale * 128) 0) refuse old next next more.goes_on (GoesOn-none done (value + scale * b) (scale * 128) next)) (Takes-refuse shown next)
 
 -- groups before the k-th stay below its limit
 pub group_fits : (v s b i k : ℕ) → v < s → s ≡ limit i → b < 128 → i < k → v + s * b < limit k

@@ -1,4 +1,4 @@
-pub mod Takings
-pub mod Groups
 pub mod FromSources
 pub mod VintLaws
+pub mod NumbersRead
+pub mod PairsRead

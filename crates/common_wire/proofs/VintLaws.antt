@@ -1,11 +1,11 @@
 -- What is done with the groups of a number: it must fit.
-use Rattle.std.proofs.Common.{◌≡◌, ℕ, ◌^◌, ◌<◌, ◌≤◌, List, ap, true, Bool}
+use Rattle.std.proofs.Common.{◌≡◌, ℕ, ◌^◌, ◌<◌, ◌≤◌, List, ap, Bool}
 use Rattle.std.specs.Prelude.{nat_lt, Option}
 use Rattle.std.proofs.lemmas.Bool.{lt-ltb, le-ltb}
-use Rattle.common_wire.specs.Taking.{Taking, give, refuse, only_if, Value, Wrong}
+use Rattle.common_wire.specs.Taking.{Taking, give, only_if, Value, Wrong}
 use Rattle.common_wire.specs.Wire.{vint, vint128}
 use Rattle.common_wire.specs.Serialized.{IsTaking}
-use Rattle.common_wire.proofs.Takings.{IsTaking-give, IsTaking-only_if}
+use Rattle.common_wire.specs.TakingLaws.{IsTaking-give, IsTaking-only_if}
 use Rattle.common_wire.proofs.FromSources.{GroupsRead, GroupsRead-begin}
 
 abbrev pub fits_u64 : ℕ → Taking ℕ

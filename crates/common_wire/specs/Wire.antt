@@ -1,6 +1,6 @@
 -- The bytes of values: the shortest spelling, which is written, and the value that stands at the front of bytes.
 use Rattle.std.specs.Prelude.{ℕ, zero, suc, ◌+◌, ◌-◌, ◌*◌, ◌/◌, ◌%◌, ◌^◌, ℤ, List, [], ◌∷◌, ◌++◌, length, Bool, nat_le, nat_lt, ◌==◌, if◌then◌else◌}
-use Rattle.std.specs.Int.{Width, w8, byte_len, to_le_bytes, from_le_bytes, cast_unsigned, cast_signed, w64}
+use Rattle.std.specs.Int.{Width, byte_len, from_le_bytes, cast_signed, w64}
 use Rattle.std.specs.List.{flat_map}
 use Rattle.std.specs.Str.{is_utf8}
 use Rattle.common_wire.specs.Taking.{Taking, ◌>>=◌, give, refuse, only_if, byte, bytes_of, counted}
@@ -10,6 +10,12 @@ unfoldable pub number : Width → Taking ℕ
 number w = do
   piece ← bytes_of (byte_len w)
   give (from_le_bytes w piece)
+
+-- a signed number of 64 bits
+unfoldable pub signed : Taking ℤ
+signed = do
+  n ← number w64
+  give (cast_signed w64 n)
 
 -- 0 or 1
 unfoldable pub flag : Taking Bool

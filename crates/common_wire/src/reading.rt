@@ -39,3 +39,17 @@ pub(crate) fn read_exact<R: Source>(reader: &mut R, buf: &mut [u8]) -> Result<()
     }
     Ok(())
 }
+
+/// The next N bytes.
+pub(crate) fn read_array<R: Source, const N: usize>(reader: &mut R) -> Result<[u8; N], WireError>
+    ensures bytes { Takes (λ bytes. bytes) (bytes_of N) (R.left reader.old) (R.left reader.new) result }
+    ensures cause { HasCause (R.faults reader.old) (R.faults reader.new) (result ≡ Err WireError.Failed) }
+    ensures taken { R.taken reader.old ≤ R.taken reader.new }
+    ensures no_memory { IfErr result (λ e. e ≢ WireError.Memory) }
+{
+    let mut buf = [0u8; N];
+    match read_exact(reader, &mut buf) {
+        Ok(()) => Ok(buf),
+        Err(e) => Err(e),
+    }
+}

@@ -9,3 +9,4 @@ pub mod Loads
 pub mod Places
 pub mod LaneMasks
 pub mod LanePlaces
+pub mod Decoding

@@ -1,5 +1,5 @@
 -- Laws of the places of the numbers within two bounds.
-use Rattle.std.proofs.Common.{◌≡◌, ℕ, suc, ◌+◌, ◌-◌, ◌*◌, ◌<◌, ◌≤◌, List, [], ◌∷◌, ◌++◌, length, take, drop, get_or, set, cond, Bool, true, false, refl, ap, sym, ◌∙◌, arith, append_assoc, append-nil, length-set}
+use Rattle.std.proofs.Common.{◌≡◌, ℕ, suc, ◌+◌, ◌-◌, ◌*◌, ◌^◌, ◌<◌, ◌≤◌, min, List, [], ◌∷◌, ◌++◌, length, take, drop, get_or, set, cond, Bool, true, false, refl, ap, sym, ◌∙◌, arith, append_assoc, append-nil, length-set, zero}
 use Rattle.std.proofs.lemmas.List.{take_more, take_more_set, take-set-le, drop-set-lt, get_or-drop, length-take-le, take_all, drop_all}
 use Rattle.std.proofs.lemmas.Grind.{drop_more_same}
 use mir.Val.{bool_byte}
@@ -7,7 +7,8 @@ use Rattle.std.proofs.lemmas.Bool.Decides.{nat_tests}
 use Rattle.std.specs.Int.{is_in_range}
 use Rattle.tantivy_bitpacker.specs.Within.{places_within, ids_within, Filtering}
 use Rattle.tantivy_bitpacker.specs.Packed.{bits_from, unpacked_from}
-use Rattle.tantivy_bitpacker.proofs.Unpacking.{unpacked_from-step, unpacked_from-none}
+use Rattle.tantivy_bitpacker.proofs.Unpacking.{unpacked_from-step, unpacked_from-none, bits_from-lt, get_or-unpacked_from}
+use Rattle.std.proofs.Math.Nat.{pow-le-pow_right}
 
 pub places_within-append : (low high place : ℕ) (xs ys : List ℕ) → places_within low high place (xs ++ ys) ≡ places_within low high place xs ++ places_within low high (place + length xs) ys
 unfolding places_within
@@ -127,3 +128,48 @@ pub lent_back : (n m : ℕ) (ys xs : List ℕ) → length ys ≡ length xs → m
 lent_back n m ys xs long all =
     let none : drop (length ys) xs ≡ [] = drop_all (length ys) xs (omega arith) in
     ap (λ l. take n (take m (ys ++ l))) none ∙ ap (λ l. take n (take m l)) (append-nil ys) ∙ ap (take n) (take_all m ys (omega arith))
+
+-- ---- numbers below 2^32
+
+bits-narrow : (place width : ℕ) (bytes : List ℕ) → width ≤ 32 → bits_from place width bytes < 2 ^ 32
+bits-narrow place width bytes narrow = let le : 2 ^ width ≤ 2 ^ 32 = pow-le-pow_right (omega arith) narrow in omega (arith, bits_from-lt place width bytes)
+
+same_if : (b c : Bool) (place : ℕ) (ps qs : List ℕ) → b ≡ c → ps ≡ qs → cond b (place ∷ ps) ps ≡ cond c (place ∷ qs) qs
+same_if b c place ps qs e f = ap (λ x. cond x (place ∷ ps) ps) e ∙ ap (λ l. cond c (place ∷ l) l) f
+
+within-narrow : (low high value : ℕ) → value < 2 ^ 32 → is_in_range low (min high (2 ^ 32 - 1)) value ≡ is_in_range low high value
+within-narrow low high value small = grind (arith, nat_tests)
+
+-- the upper bound may be cut to 32 bits
+pub places_within-narrow : (low high place first count width : ℕ) (bytes : List ℕ) → width ≤ 32
+    → places_within low (min high (2 ^ 32 - 1)) place (unpacked_from first count width bytes) ≡ places_within low high place (unpacked_from first count width bytes)
+unfolding places_within unpacked_from
+places_within-narrow low high place first zero width bytes narrow = refl
+places_within-narrow low high place first (suc count) width bytes narrow =
+    same_if _ _ place _ _ (within-narrow low high (bits_from (first * width) width bytes) (bits-narrow (first * width) width bytes narrow)) (places_within-narrow low high (place + 1) (first + 1) count width bytes narrow)
+
+within-above : (low high value : ℕ) → value < 2 ^ 32 → 2 ^ 32 - 1 < low → is_in_range low high value ≡ false
+within-above low high value small above = grind (arith, nat_tests)
+
+-- a lower bound above 32 bits leaves none
+pub places_within-above : (low high place first count width : ℕ) (bytes : List ℕ) → width ≤ 32 → 2 ^ 32 - 1 < low → places_within low high place (unpacked_from first count width bytes) ≡ []
+unfolding places_within unpacked_from
+places_within-above low high place first zero width bytes narrow above = refl
+places_within-above low high place first (suc count) width bytes narrow above =
+    same_if _ _ place _ _ (within-above low high (bits_from (first * width) width bytes) (bits-narrow (first * width) width bytes narrow) above) (places_within-above low high (place + 1) (first + 1) count width bytes narrow above)
+
+pub unpacked_from-narrow : (first count width : ℕ) (bytes : List ℕ) → width ≤ 32 → (k : ℕ) → k < count → get_or (unpacked_from first count width bytes) k 0 < 2 ^ 32
+unpacked_from-narrow first count width bytes narrow k below = rw (get_or-unpacked_from first count width bytes k 0 below) (bits-narrow ((first + k) * width) width bytes narrow)
+
+pub lent_whole : (m : ℕ) (ys xs : List ℕ) → length ys ≡ length xs → m ≡ length xs → take m (ys ++ drop (length ys) xs) ≡ ys
+lent_whole m ys xs long all =
+    let none : drop (length ys) xs ≡ [] = drop_all (length ys) xs (omega arith) in
+    ap (λ l. take m (ys ++ l)) none ∙ ap (take m) (append-nil ys) ∙ take_all m ys (omega arith)
+
+-- ids filtered out of numbers that were decoded into a list that was lent
+pub ids_from_batch : (low high first end width m n start stop : ℕ) (found ys xs bytes : List ℕ) → found ≡ places_within start stop first (take m (ys ++ drop (length ys) xs)) → start ≡ low → stop ≡ min high (2 ^ 32 - 1)
+    → length ys ≡ length xs → m ≡ length xs → ys ≡ unpacked_from first n width bytes → n ≡ end - first → width ≤ 32 → found ≡ ids_within low high first end width bytes
+ids_from_batch low high first end width m n start stop found ys xs bytes is from to long all decoded count narrow =
+    is ∙ ap (places_within start stop first) (lent_whole m ys xs long all ∙ decoded ∙ ap (λ k. unpacked_from first k width bytes) count)
+    ∙ ap (λ s. places_within s stop first (unpacked_from first (end - first) width bytes)) from ∙ ap (λ s. places_within low s first (unpacked_from first (end - first) width bytes)) to
+    ∙ places_within-narrow low high first first (end - first) width bytes narrow

@@ -5,6 +5,7 @@ mod bitpacker;
 mod bits;
 mod bitunpacker;
 mod filter_vec;
+mod groups;
 pub mod plain;
 
 pub use bitpacker::BitPacker;

@@ -6,3 +6,9 @@ pub mod Room
 pub mod Appending
 pub mod Reading
 pub mod ListFacts
+pub mod Halves
+pub mod Tables
+pub mod Hashes
+pub mod Entries
+pub mod Inserting
+pub mod Maps

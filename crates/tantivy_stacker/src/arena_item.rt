@@ -2,7 +2,7 @@
 ghost use Rattle.std.specs.Prelude.{◌≡◌, ℕ, ◌+◌, ◌≤◌, List, [], ◌∷◌, ◌++◌, length, take, drop, slice_index};
 ghost use Rattle.std.specs.Int.{w16, w32, w64, to_le_bytes, from_le_bytes};
 
-use crate::Addr;
+use crate::{Addr, ExpUnrolledLinkedList};
 
 /// A value of a fixed number of bytes.
 pub trait ArenaItem: Copy {
@@ -27,6 +27,8 @@ pub trait ArenaItem: Copy {
         ensures { result ≡ item src.now };
 
     ghost small: { SIZE ≤ 1024 };
+
+    ghost some: { 1 ≤ SIZE };
 }
 
 impl ArenaItem for u8 {
@@ -49,6 +51,8 @@ impl ArenaItem for u8 {
     ghost use Rattle.std.proofs.Common.{rules};
 
     ghost small = { Prim.search rules };
+
+    ghost some = { Prim.search rules };
 }
 
 impl ArenaItem for u16 {
@@ -74,6 +78,8 @@ impl ArenaItem for u16 {
     ghost use Rattle.std.proofs.Common.{rules};
 
     ghost small = { Prim.search rules };
+
+    ghost some = { Prim.search rules };
 }
 
 impl ArenaItem for u32 {
@@ -99,6 +105,8 @@ impl ArenaItem for u32 {
     ghost use Rattle.std.proofs.Common.{rules};
 
     ghost small = { Prim.search rules };
+
+    ghost some = { Prim.search rules };
 }
 
 impl ArenaItem for u64 {
@@ -124,6 +132,8 @@ impl ArenaItem for u64 {
     ghost use Rattle.std.proofs.Common.{rules};
 
     ghost small = { Prim.search rules };
+
+    ghost some = { Prim.search rules };
 }
 
 impl ArenaItem for Addr {
@@ -146,6 +156,8 @@ impl ArenaItem for Addr {
     ghost use Rattle.std.proofs.Common.{rules};
 
     ghost small = { Prim.search rules };
+
+    ghost some = { Prim.search rules };
 }
 
 /// Writes an item's bytes.
@@ -162,4 +174,73 @@ pub fn load<Item: ArenaItem>(data: &[u8]) -> Item
     ensures { result ≡ Item.item «data».now }
 {
     Item::from_bytes(data)
+}
+
+/// An item that pairs are made of.
+pub trait SingleItem: ArenaItem {
+    ghost at_most: { Self.SIZE ≤ 512 };
+}
+
+impl SingleItem for u8 {
+    ghost use Rattle.std.proofs.Common.{rules};
+
+    ghost at_most = { Prim.search rules };
+}
+
+impl SingleItem for u16 {
+    ghost use Rattle.std.proofs.Common.{rules};
+
+    ghost at_most = { Prim.search rules };
+}
+
+impl SingleItem for u32 {
+    ghost use Rattle.std.proofs.Common.{rules};
+
+    ghost at_most = { Prim.search rules };
+}
+
+impl SingleItem for u64 {
+    ghost use Rattle.std.proofs.Common.{rules};
+
+    ghost at_most = { Prim.search rules };
+}
+
+impl SingleItem for Addr {
+    ghost use Rattle.std.proofs.Common.{rules};
+
+    ghost at_most = { Prim.search rules };
+}
+
+impl SingleItem for ExpUnrolledLinkedList {
+    ghost use Rattle.std.proofs.Common.{rules};
+
+    ghost at_most = { Prim.search rules };
+}
+
+impl<A: SingleItem, B: SingleItem> ArenaItem for (A, B) {
+    ghost SIZE = { A.SIZE + B.SIZE };
+
+    ghost bytes = { λ p. A.bytes p.0 ++ B.bytes p.1 };
+
+    ghost item = { λ bs. (A.item (take A.SIZE bs), B.item (drop A.SIZE bs)) };
+
+    const SIZE: usize = A::SIZE + B::SIZE;
+
+    fn to_bytes(&self, dest: &mut [u8]) {
+        self.0.to_bytes(&mut dest[..A::SIZE]);
+        self.1.to_bytes(&mut dest[A::SIZE..]);
+    }
+
+    fn from_bytes(src: &[u8]) -> Self {
+        (
+            A::from_bytes(&src[..A::SIZE]),
+            B::from_bytes(&src[A::SIZE..]),
+        )
+    }
+
+    ghost use Rattle.std.proofs.Common.{arith};
+
+    ghost small = { Prim.omega (arith, A.at_most, B.at_most) };
+
+    ghost some = { Prim.omega (arith, A.some) };
 }

@@ -3,7 +3,7 @@ ghost use Rattle.std.specs.Prelude.{◌≡◌, ◌≢◌, ℕ, ◌+◌, ◌-◌,
 ghost use Rattle.tantivy_stacker.specs.Arena.{Lies, bytes_at, spent, IsAtLimit};
 ghost use Rattle.tantivy_stacker.specs.Lists.{block_size as size_of_block, IsLaidOut, IsHeld, list_bytes, list_places, HasNewBlock, Extends, ListWrite, room, IsEmptyList};
 
-use crate::{Addr, ArenaError, MemoryArena};
+use crate::{Addr, ArenaError, ArenaItem, MemoryArena};
 use std::alloc::AllocError;
 
 /// The number of the block before the first, so that block number n has 2^n bytes, up to 2^15.
@@ -226,4 +226,39 @@ impl ExpUnrolledLinkedListWriter<'_> {
     {
         self.eull.append(self.arena, buf)
     }
+}
+
+impl ArenaItem for ExpUnrolledLinkedList {
+    ghost use Rattle.std.specs.Prelude.{◌++◌, take, drop};
+    ghost use Rattle.std.specs.Int.{w16, w32, to_le_bytes, from_le_bytes};
+
+    ghost SIZE = { 14 };
+
+    ghost bytes = { λ l. to_le_bytes w16 l.remaining_cap ++ (to_le_bytes w32 l.block_num ++ (to_le_bytes w32 l.head ++ to_le_bytes w32 l.tail)) };
+
+    ghost item = { λ bs. record { remaining_cap = from_le_bytes w16 (take 2 bs); block_num = from_le_bytes w32 (take 4 (drop 2 bs)); head = from_le_bytes w32 (take 4 (drop 6 bs)); tail = from_le_bytes w32 (take 4 (drop 10 bs)) } };
+
+    const SIZE: usize = 14;
+
+    fn to_bytes(&self, dest: &mut [u8]) {
+        self.remaining_cap.to_bytes(&mut dest[..2]);
+        self.block_num.to_bytes(&mut dest[2..6]);
+        self.head.to_bytes(&mut dest[6..10]);
+        self.tail.to_bytes(&mut dest[10..]);
+    }
+
+    fn from_bytes(src: &[u8]) -> Self {
+        ExpUnrolledLinkedList {
+            remaining_cap: u16::from_bytes(&src[..2]),
+            block_num: u32::from_bytes(&src[2..6]),
+            head: Addr::from_bytes(&src[6..10]),
+            tail: Addr::from_bytes(&src[10..14]),
+        }
+    }
+
+    ghost use Rattle.std.proofs.Common.{rules};
+
+    ghost small = { Prim.search rules };
+
+    ghost some = { Prim.search rules };
 }

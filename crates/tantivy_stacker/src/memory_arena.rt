@@ -130,7 +130,8 @@ impl MemoryArena {
     #[inline]
     pub fn read<Item: ArenaItem>(&self, addr: Addr) -> Item
         requires { Lies self.now addr Item.SIZE }
-        ensures { result ≡ Item.item (bytes_at self.now addr Item.SIZE) }
+        ensures item { result ≡ Item.item (bytes_at self.now addr Item.SIZE) }
+        ensures pages { length self.now.pages ≤ 4096 }
     {
         load(self.slice(addr, Item::SIZE))
     }

@@ -2,7 +2,7 @@
 ghost use Rattle.std.specs.Prelude.{◌≡◌, ℕ, ◌+◌, ◌-◌, ◌≤◌, List, ◌++◌, length, take, drop, replicate, slice_range, OnOk, OnErr, IfOk};
 ghost use Rattle.tantivy_stacker.specs.Arena.{page_bytes, put_on_page};
 
-use crate::ArenaItem;
+use crate::{ArenaItem, fast_short_slice_copy};
 use std::alloc::{AllocError, Global};
 use std::marker::Model;
 
@@ -78,7 +78,7 @@ impl Page {
     {
         let bytes = self.bytes.as_mut_slice();
         let end = place + new.len();
-        bytes[place..end].copy_from_slice(new);
+        fast_short_slice_copy(new, &mut bytes[place..end]);
     }
 
     /// Writes an item's bytes at a place.

@@ -1,7 +1,6 @@
 -- The front of the buffer was taken, and no count has fallen.
-use Rattle.std.proofs.Common.{◌≡◌, ◌-◌, ◌≤◌, length, take}
+use Rattle.std.proofs.Common.{◌-◌, ◌≤◌, length, take}
 use Rattle.std.specs.Io.KnownBytes.{Consumes}
-use Rattle.owned_bytes.specs.Outside.{HasCause}
 use Rattle.common_wire.proofs.reading.read_exact.Given as goal
 
 abbrev pub invariant-loop-at : goal.invariant-loop-at

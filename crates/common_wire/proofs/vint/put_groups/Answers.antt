@@ -1,8 +1,8 @@
-use Rattle.std.proofs.Common.{◌≡◌, ℕ, List, ◌+◌, ◌-◌, ◌%◌, length, arith, ap, ◌∙◌}
+use Rattle.std.proofs.Common.{◌≡◌, ℕ, List, ◌+◌, ◌-◌, ◌%◌, length, arith, ap, ◌∙◌, sym, ◌<◌, length-take-le}
 use Rattle.std.specs.Prelude.{slice_set}
 use Rattle.std.proofs.Math.ListN.{length-set}
 use Rattle.common_wire.specs.Wire.{group_bytes}
-use Rattle.common_wire.proofs.Groups.{Progress, Progress-more, Progress-end}
+use Rattle.common_wire.specs.GroupLaws.{Progress-more, Progress-end}
 use Rattle.common_wire.proofs.vint.put_groups.Goals as goal
 
 -- what is left of the buffer falls by one
@@ -18,3 +18,10 @@ loop-rest-preserved c =
 pub returns-clause-written : goal.returns-clause-written
 returns-clause-written c =
     (Progress-end _ _ _ _ _ c.loop-rest.invariant c.loop-rest-test.false).1 ∙ ap (λ (n : ℕ). group_bytes n c.args.val) c.loop-rest.auto.buffer
+
+pub returns-clause-len : goal.returns-clause-len
+returns-clause-len c =
+    let last = Progress-end _ _ _ _ _ c.loop-rest.invariant c.loop-rest-test.false in
+    let within : c.loop-rest.len < length c.loop-rest.buffer = last.0 in
+    let same : length (slice_set c.loop-rest.buffer c.loop-rest.len (c.loop-rest.rest + 128)) ≡ length c.loop-rest.buffer = simp length-set in
+    sym (length-take-le (c.loop-rest.len + 1) (slice_set c.loop-rest.buffer c.loop-rest.len (c.loop-rest.rest + 128)) (omega arith)) ∙ ap length (last.1 ∙ ap (λ (n : ℕ). group_bytes n c.args.val) c.loop-rest.auto.buffer)

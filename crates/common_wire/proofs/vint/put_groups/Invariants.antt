@@ -1,5 +1,5 @@
 use Rattle.std.proofs.Common.{◌-◌, length}
-use Rattle.common_wire.proofs.Groups.{Progress}
+use Rattle.common_wire.specs.GroupLaws.{Progress}
 use Rattle.common_wire.proofs.vint.put_groups.Given as goal
 
 abbrev pub invariant-loop-rest : goal.invariant-loop-rest

@@ -1,9 +1,9 @@
-use Rattle.std.proofs.Common.{◌≡◌, ℕ, suc, ◌+◌, ◌-◌, ◌*◌, ◌≤◌, ◌<◌, ◌^◌, arith}
+use Rattle.std.proofs.Common.{◌≡◌, ℕ, ◌+◌, ◌-◌, ◌*◌, ◌≤◌, ◌<◌, ◌^◌, arith}
 use Rattle.std.proofs.Math.Nat.{mul-le-mul_left}
 use Rattle.std.proofs.lemmas.Result.{err_from_is_err_and}
 use Rattle.common_wire.specs.Serialized.{limit}
 use Rattle.common_wire.proofs.FromSources.{GroupsRead-more, GroupsRead-cut, GroupsRead-last, GroupsRead-large, GroupsRead-long, group_fits}
-use Rattle.common_wire.proofs.Groups.{limit-rising}
+use Rattle.common_wire.specs.GroupLaws.{limit-rising}
 use Rattle.common_wire.proofs.VintLaws.{GroupsRead-vint, IsTaking-fits_u64, fits_u64-is, fits_u64-not}
 use Rattle.common_wire.proofs.vint.VInt.deserialize_u64.Goals as goal
 use Rattle.common_wire.proofs.vint.VInt.deserialize_u64.Goals.{then-last-lt128-via-then-last-lt128, then-last-lt128-via-else-last-lt128+then-last-ge130}
@@ -67,11 +67,12 @@ returns-in_err-last-clause-bytes g c =
 
 pub returns-then-last-lt128-clause-bytes : goal.returns-then-last-lt128-clause-bytes
 returns-then-last-lt128-clause-bytes g c = elim c.then-last-lt128.branch [
-  then-last-lt128-via-then-last-lt128 w ↦ GroupsRead-long _ _ _ _ _ _ _ _ _ _ _ c.loop-turn.invariant.read (omega (arith, c.loop-turn-test.false)) w.if-last-lt128.true c.in_ok-last.ensures.bytes
+  | then-last-lt128-via-then-last-lt128 w ↦ GroupsRead-long _ _ _ _ _ _ _ _ _ _ _ c.loop-turn.invariant.read (omega (arith, c.loop-turn-test.false)) w.if-last-lt128.true c.in_ok-last.ensures.bytes
   | then-last-lt128-via-else-last-lt128+then-last-ge130 w ↦ GroupsRead-large _ _ _ _ 0 _ _ _ _ _ _ _ c.loop-turn.invariant.read (omega (arith, c.loop-turn-test.false)) w.if-last-lt128.false c.in_ok-last.ensures.bytes
-    (λ bytes. fits_u64-not _ bytes (tenth_large c.loop-turn.value c.loop-turn.scale (c.in_ok-last.last - 128) c.loop-turn.turn c.loop-turn.invariant.read.scaled (omega (arith, c.loop-turn-test.false)) (omega (arith, w.if-last-ge130.true)))) ]
+      (λ bytes. fits_u64-not _ bytes (tenth_large c.loop-turn.value c.loop-turn.scale (c.in_ok-last.last - 128) c.loop-turn.turn c.loop-turn.invariant.read.scaled (omega (arith, c.loop-turn-test.false)) (omega (arith, w.if-last-ge130.true))))
+]
 
 pub returns-clause-bytes : goal.returns-clause-bytes
 returns-clause-bytes g c =
     GroupsRead-last _ _ _ _ 0 _ _ _ _ _ _ _ _ c.loop-turn.invariant.read (omega (arith, c.loop-turn-test.false)) c.if-last-lt128.false c.in_ok-last.ensures.bytes
-      (λ bytes. fits_u64-is _ bytes (tenth_fits c.loop-turn.value c.loop-turn.scale (c.in_ok-last.last - 128) c.loop-turn.turn c.loop-turn.invariant.read.below c.loop-turn.invariant.read.scaled (omega (arith, c.loop-turn-test.false)) (omega (arith, c.if-last-ge130.false))))
+    (λ bytes. fits_u64-is _ bytes (tenth_fits c.loop-turn.value c.loop-turn.scale (c.in_ok-last.last - 128) c.loop-turn.turn c.loop-turn.invariant.read.below c.loop-turn.invariant.read.scaled (omega (arith, c.loop-turn-test.false)) (omega (arith, c.if-last-ge130.false))))

@@ -37,7 +37,7 @@ loop-block_num-preserved c =
     let a = c.args.arena.now in
     let at : c.offset.result ≡ (r.addr + block_size r.block_num) % 2 ^ 32 = rw (← c.block_size-size.ensures.value) c.offset.ensures in
     let piece : c.slice.result.now ≡ bytes_at a r.addr (block_size r.block_num) = rw (← c.block_size-size.ensures.value) c.slice.ensures.bytes in
-    rw (c.in_ok-extend_from_slice.ensures.items, piece) (reading_more a c.args.self.now r.block_num r.addr c.args.output.now.items r.output.items r.invariant c.loop-block_num-test.true c.offset.result c.read-addr.result c.slice.ensures.pages at c.read-addr.ensures)
+    rw (c.in_ok-extend_from_slice.ensures.items, piece) (reading_more a c.args.self.now r.block_num r.addr c.args.output.now.items r.output.items r.invariant c.loop-block_num-test.true c.offset.result c.read-addr.result c.slice.ensures.pages at c.read-addr.ensures.item)
 
 pub slice-requires-2 : goal.slice-requires-2
 slice-requires-2 c =

@@ -1,15 +1,14 @@
 -- The laws of numbers in groups of seven bits.
-use Rattle.std.proofs.Common.{◌≡◌, ℕ, zero, suc, ◌+◌, ◌-◌, ◌*◌, ◌/◌, ◌%◌, ◌^◌, ◌<◌, ◌≤◌, List, [], ◌∷◌, ◌++◌, length, take, drop, Bool, true, false, refl, ap, sym, ◌∙◌, arith, append_assoc}
+use Rattle.std.proofs.Common.{◌≡◌, ℕ, zero, suc, ◌+◌, ◌-◌, ◌*◌, ◌/◌, ◌%◌, ◌^◌, ◌<◌, ◌≤◌, List, [], ◌∷◌, ◌++◌, length, take, Bool, true, false, refl, ap, sym, ◌∙◌, arith, append_assoc}
 use Rattle.std.specs.Prelude.{nat_lt, slice_set, if◌then◌else◌}
 use Rattle.std.proofs.lemmas.Bool.{lt-ltb, le-ltb, ltb-true, ltb-false}
-use Rattle.std.proofs.Common.{add-one}
 use Rattle.std.proofs.Math.Nat.{mul-le-mul_left}
 use Rattle.std.proofs.Math.ListN.{length-set}
-use Rattle.std.proofs.lemmas.List.{drop-set-lt, take_more_set}
-use Rattle.common_wire.specs.Taking.{Taken, Value, Cut, Wrong, Taking, continued, ◌>>=◌, give, refuse, only_if, byte}
-use Rattle.common_wire.specs.Wire.{groups, group_bytes, vint, vint_bytes, vint128, vint128_bytes, length_taken, max_length}
+use Rattle.std.proofs.lemmas.List.{take_more_set}
+use Rattle.common_wire.specs.Taking.{Value, Cut, Wrong, continued, ◌>>=◌, give, only_if, byte}
+use Rattle.common_wire.specs.Wire.{groups, group_bytes, vint, vint_bytes, vint128, vint128_bytes}
 use Rattle.common_wire.specs.Serialized.{IsTaking, limit}
-use Rattle.common_wire.proofs.Takings.{IsTaking-give, IsTaking-refuse, IsTaking-byte, IsTaking-then, IsTaking-if, IsTaking-only_if}
+use Rattle.common_wire.specs.TakingLaws.{IsTaking-give, IsTaking-refuse, IsTaking-byte, IsTaking-then, IsTaking-if, IsTaking-only_if}
 
 pub group_bytes-last : (k n : ℕ) → n < 128 → group_bytes (suc k) n ≡ (n + 128) ∷ []
 unfolding group_bytes

@@ -2,8 +2,7 @@
 use Rattle.std.proofs.Common.{◌≡◌, ℕ, zero, suc, ◌≤◌, List, [], ◌∷◌, ◌++◌, length, take, drop, Bool, true, false, refl, ap, sym, ◌∙◌, arith, append_assoc, append-nil, length-append, take-append-drop, length-take-le}
 use Rattle.std.specs.Prelude.{nat_le, if◌then◌else◌}
 use Rattle.std.proofs.lemmas.Bool.{leb-true, le-leb}
-use Rattle.std.proofs.lemmas.List.{take_at, drop_at, take_all, drop_all}
-use lib.Seq.{take-append-le, drop-append-le}
+use Rattle.std.proofs.lemmas.List.{take_at, drop_at}
 use Rattle.common_wire.specs.Taking.{Taken, Value, Cut, Wrong, Taking, continued, ◌>>=◌, give, refuse, only_if, byte, bytes_of, counted}
 use Rattle.common_wire.specs.Serialized.{IsTaking}
 
