@@ -8,8 +8,8 @@ use Rattle.common_bitset.specs.Subset.{word_at}
 use Rattle.common_bitset.specs.Counts.{total}
 
 -- the first k words are done, and have count elements
-pub record Applied (op : Numbers → Numbers → Numbers) (old right left : List Numbers) (k count : ℕ) : Type 0 where
-  pub done : (j : ℕ) → j < k → word_at left j ≡ op (word_at old j) (word_at right j)
+pub record Applied (op : Numbers → Numbers → Numbers) (old : List Numbers) (right : ℕ → Numbers) (left : List Numbers) (k count : ℕ) : Type 0 where
+  pub done : (j : ℕ) → j < k → word_at left j ≡ op (word_at old j) (right j)
   pub to_do : (j : ℕ) → k ≤ j → word_at left j ≡ word_at old j
   pub counted : count ≡ total k (word_at left)
   pub few : count ≤ 64 * k
@@ -18,16 +18,16 @@ total_same : (k : ℕ) (word word' : ℕ → Numbers) → ((j : ℕ) → j < k �
 total_same zero word word' agree = refl
 total_same (suc k) word word' agree = λ i. total_same k word word' (λ j h. agree j (omega arith)) i + len (agree k (omega arith) i)
 
-pub Applied-none : (op : Numbers → Numbers → Numbers) (old right : List Numbers) → Applied op old right old 0 0
+pub Applied-none : (op : Numbers → Numbers → Numbers) (old : List Numbers) (right : ℕ → Numbers) → Applied op old right old 0 0
 Applied-none op old right = record { done = λ j h. absurd (none h); to_do = λ j h. refl; counted = refl; few = omega arith }
   where
     none : {j : ℕ} → j < 0 → ⊥
     none h = omega arith
 
-pub Applied-more : {op : Numbers → Numbers → Numbers} {old right left : List Numbers} {k count : ℕ} (x y w : Numbers) (n : ℕ)
-    → Applied op old right left k count → k < length left → length right ≡ length left → x ≡ get_or left k x → y ≡ get_or right k y
+pub Applied-more : {op : Numbers → Numbers → Numbers} {old : List Numbers} {right : ℕ → Numbers} {left : List Numbers} {k count : ℕ} (x y w : Numbers) (n : ℕ)
+    → Applied op old right left k count → k < length left → x ≡ get_or left k x → y ≡ right k
     → w ≡ op x y → n ≡ len w → n ≤ 64 → Applied op old right (set left k w) (k + 1) (count + n)
-Applied-more {op} {old} {right} {left} {k} {count} x y w n so_far within same read_x read_y is counts small = record {
+Applied-more {op} {old} {right} {left} {k} {count} x y w n so_far within read_x read_y is counts small = record {
   done = λ j h. done j (omega arith);
   to_do = λ j h. get_or-set_other left k j w empty (λ e. omega arith) ∙ so_far.to_do j (omega arith);
   counted = (λ i. so_far.counted i + counts i) ∙ (λ i. total_same k (word_at left) (word_at (set left k w)) (λ j h. sym (get_or-set_other left k j w empty (λ e. omega arith))) i + len (sym here i))
@@ -41,21 +41,18 @@ Applied-more {op} {old} {right} {left} {k} {count} x y w n so_far within same re
     old_word : x ≡ word_at old k
     old_word = read_x ∙ get_or_default left k x empty within ∙ so_far.to_do k (omega arith)
 
-    right_word : y ≡ word_at right k
-    right_word = read_y ∙ get_or_default right k y empty (omega arith)
-
-    done : (j : ℕ) → j ≤ k → word_at (set left k w) j ≡ op (word_at old j) (word_at right j)
-    done j h = elim (cases_eq j k) as (λ _. word_at (set left k w) j ≡ op (word_at old j) (word_at right j)) [
-      | inl e ↦ ap (word_at (set left k w)) e ∙ here ∙ is ∙ (λ i. op (old_word i) (right_word i)) ∙ (λ i. op (word_at old (sym e i)) (word_at right (sym e i)))
+    done : (j : ℕ) → j ≤ k → word_at (set left k w) j ≡ op (word_at old j) (right j)
+    done j h = elim (cases_eq j k) as (λ _. word_at (set left k w) j ≡ op (word_at old j) (right j)) [
+      | inl e ↦ ap (word_at (set left k w)) e ∙ here ∙ is ∙ (λ i. op (old_word i) (read_y i)) ∙ (λ i. op (word_at old (sym e i)) (right (sym e i)))
       | inr ne ↦ get_or-set_other left k j w empty ne ∙ so_far.done j (omega arith)
     ]
 
-pub Applied-all : {op : Numbers → Numbers → Numbers} {old right left : List Numbers} {k count : ℕ} → Applied op old right left k count
-    → length left ≤ k → length old ≡ length left → length right ≡ length left → op empty empty ≡ empty → (j : ℕ) → word_at left j ≡ op (word_at old j) (word_at right j)
-Applied-all {op} {old} {right} {left} {k} {count} all long same_old same_right nothing j =
-    elim (cases_lt j k) as (λ _. word_at left j ≡ op (word_at old j) (word_at right j)) [
+pub Applied-all : {op : Numbers → Numbers → Numbers} {old : List Numbers} {right : ℕ → Numbers} {left : List Numbers} {k count : ℕ} → Applied op old right left k count
+    → length left ≤ k → length old ≡ length left → ((j : ℕ) → length left ≤ j → right j ≡ empty) → op empty empty ≡ empty → (j : ℕ) → word_at left j ≡ op (word_at old j) (right j)
+Applied-all {op} {old} {right} {left} {k} {count} all long same_old past nothing j =
+    elim (cases_lt j k) as (λ _. word_at left j ≡ op (word_at old j) (right j)) [
       | inl h ↦ all.done j h
-      | inr h ↦ get_or_past left j empty (omega arith) ∙ sym nothing ∙ (λ i. op (sym (get_or_past old j empty (omega arith)) i) (sym (get_or_past right j empty (omega arith)) i))
+      | inr h ↦ get_or_past left j empty (omega arith) ∙ sym nothing ∙ (λ i. op (sym (get_or_past old j empty (omega arith)) i) (sym (past j (omega arith)) i))
     ]
 
 -- what a whole slice that was lent leaves in its vector

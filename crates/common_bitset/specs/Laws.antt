@@ -5,3 +5,4 @@ pub mod WordSets
 pub mod Steps
 pub mod Gathered
 pub mod Laid
+pub mod Stored

@@ -1,5 +1,5 @@
 -- A set of numbers below a bound, and how it lies in words of 64 and in bytes.
-use Rattle.std.specs.Prelude.{◌≡◌, ℕ, ◌+◌, ◌-◌, ◌*◌, ◌/◌, ◌%◌, ◌^◌, ◌<◌, ◌≤◌, ◌≢◌, min, Bool, true, List, ◌++◌, length, take, drop, slice_index_or, slice_range, flat_map, refl}
+use Rattle.std.specs.Prelude.{◌≡◌, ℕ, ◌+◌, ◌-◌, ◌*◌, ◌/◌, ◌%◌, ◌^◌, ◌<◌, ◌≤◌, ◌≢◌, min, Bool, true, List, ◌++◌, length, take, drop, slice_index_or, flat_map, refl}
 use Rattle.std.specs.Int.{w32, w64, div_ceil, to_le_bytes, from_le_bytes}
 use Rattle.std.specs.List.{range_with_len}
 use Rattle.std.specs.Coded.{Coded, code_by, coded×, coded_ℕ}
@@ -55,21 +55,25 @@ pub record IsFirstNonEmpty (word : ℕ → Numbers) (from b : ℕ) : Type 0 wher
 
 -- ---- in bytes
 
--- the bound in four bytes, and the words in eight bytes each, all least byte first
-unfoldable pub bytes_of : Subset → List ℕ
-bytes_of s = to_le_bytes w32 s.max_value ++ flat_map (λ k. to_le_bytes w64 (word_of (word_in s.elements k))) (range_with_len 0 (div_ceil s.max_value 64))
+-- n words in eight bytes each, least byte first
+unfoldable pub words_bytes : ℕ → (ℕ → Numbers) → List ℕ
+words_bytes n word = flat_map (λ k. to_le_bytes w64 (word_of (word k))) (range_with_len 0 n)
+
+-- the bound in four bytes, least byte first, and as many words as it needs
+abbrev pub bytes_of : Subset → List ℕ
+bytes_of s = to_le_bytes w32 s.max_value ++ words_bytes (div_ceil s.max_value 64) (word_in s.elements)
 
 -- word k of bytes
 unfoldable pub stored_word : List ℕ → ℕ → Numbers
-stored_word words k = elements_of (from_le_bytes w64 (slice_range words (8 * k) (8 * k + 8)))
+stored_word bytes k = elements_of (from_le_bytes w64 (take 8 (drop (8 * k) bytes)))
 
 -- the bound that bytes begin with
 abbrev pub stored_bound : List ℕ → ℕ
 stored_bound bytes = from_le_bytes w32 (take 4 bytes)
 
--- the bytes are a bound, as many words as it needs, and no element at or past it
+-- the bytes are a bound, as many words as it needs, and in them no element at or past it
 pub record FitsBitSet (bytes : List ℕ) : Type 0 where
-  pub bound : 4 ≤ length bytes
+  pub begun : 4 ≤ length bytes
   pub whole : length bytes ≡ 4 + 8 * div_ceil (stored_bound bytes) 64
   pub within : (k i : ℕ) → contains (stored_word (drop 4 bytes) k) i ≡ true → 64 * k + i < stored_bound bytes
 

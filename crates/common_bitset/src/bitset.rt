@@ -5,7 +5,7 @@ ghost use Rattle.common_bitset.specs.Numbers.{below};
 ghost use Rattle.std.specs.Int.{div_ceil};
 ghost use Rattle.common_bitset.specs.Subset.{Subset, IsProper, IsFirstNonEmpty, word_in};
 
-use crate::{TinySet, words};
+use crate::{ReadOnlyBitSet, TinySet, words};
 use std::alloc::{AllocError, Global};
 use std::fmt;
 use std::marker::Model;
@@ -100,6 +100,15 @@ impl BitSet {
     {
         self.len = words::intersect(self.tinysets.as_mut_slice(), other.tinysets.as_slice());
     }
+    /// Keeps the elements that the other set has too.
+    pub fn intersect_update(&mut self, other: &ReadOnlyBitSet)
+        requires { other.now.max_value ≡ self.old.max_value }
+        ensures elements { self.new.elements ≡ set.intersection self.old.elements other.now.elements }
+        ensures max_value { self.new.max_value ≡ self.old.max_value }
+    {
+        self.len = other.intersect_words(self.tinysets.as_mut_slice());
+    }
+
     /// Leaves the numbers below `max_value` that were no elements.
     pub fn complement(&mut self)
         ensures elements { self.new.elements ≡ set.difference (below self.old.max_value) self.old.elements }

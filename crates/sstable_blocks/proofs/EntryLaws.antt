@@ -1,8 +1,8 @@
 -- A reader of entries gives the entries of the run, in order.
 use Rattle.std.proofs.Common.{◌≡◌, ℕ, zero, suc, ◌+◌, ◌<◌, List, [], ◌∷◌, ◌++◌, length, take, drop, map, Bool, true, false, cond, Option, Some, None, Result, Ok, Err, refl, ap, sym, ◌∙◌, subst, inl, inr, arith, drop-drop}
-use Rattle.std.specs.Prelude.{unwrap_or, is_none, slice_get, nat_eq, ◌==◌, ◌||◌, ◌⊎◌}
+use Rattle.std.specs.Prelude.{IsSome, IsTrue, IfOk, is_some, unwrap_or, is_none, slice_get, nat_eq, ◌==◌, ◌||◌, ◌⊎◌}
 use Rattle.std.specs.List.{zip}
-use Rattle.std.proofs.lemmas.Bool.{eqb-true, eq-eqb}
+use Rattle.std.proofs.lemmas.Bool.{eqb-true, eq-eqb, false≢true}
 use Rattle.owned_bytes.specs.Front.{◌>>=◌, provided, Front, End, Piece, Fault, piece_or_fault, continued, pieces}
 use Rattle.owned_bytes.specs.Keys.{Key, shared, is_below}
 use Rattle.owned_bytes.proofs.Pieces.{pieces-step, bind_some, some_is}
@@ -10,6 +10,7 @@ use Rattle.sstable_blocks.specs.declared.errors.BlockError.{BlockError}
 use Rattle.sstable_blocks.specs.declared.errors.BlockError.TheVariants.{Memory, Corrupt, Compressed}
 use Rattle.sstable_blocks.specs.Values.{Values, Listed, Everywhere, value_at, values_from, HasNone}
 use Rattle.sstable_blocks.specs.Codec.{Codec}
+use Rattle.sstable_blocks.specs.Content.{Found, block_at}
 use Rattle.sstable_blocks.specs.Delta.{Delta, delta_at}
 use Rattle.sstable_blocks.specs.Block.{front_of_deltas, key_after, keys_after, keys_of, paired, block_of}
 use Rattle.sstable_blocks.specs.Run.{front_of_blocks, last_key, may_follow, key_before, Block, Run, blocks_after, whole_run_of, entries_of, run_of}
@@ -470,3 +471,30 @@ fresh_left {V} codec walk bytes start f =
     by_contents : (found : Option (List (List ℕ) × List ℕ)) → (found >>= after_contents codec None []) ≡ ((found >>= (λ contents. blocks_after codec None contents.0 >>= (λ blocks. Some (record { blocks = blocks; rest = contents.1 })))) >>= (λ (run : Run V). Some (entries_of run.blocks)))
     by_contents None = refl
     by_contents (Some contents) = by_blocks contents.1 (blocks_after codec None contents.0)
+
+-- After a step to an entry there is a current one.
+entry_current : {V : Type 0} (walk new : Walk V) (found : Option (Entry V × List ℕ)) → to_entry walk found ≡ Ok (Some new) → IsSome new.current
+entry_current walk new None e = absurd cc
+entry_current {V} walk new (Some found) e = let is : record walk { current = Some found.0; given = walk.given + 1; deltas = found.1 } ≡ new = step-is _ _ e in ap (λ (w : Walk V). is_some w.current) (sym is)
+
+first_current : {V : Type 0} (walk new : Walk V) (found : Option (Values V × List ℕ)) → to_first walk found ≡ Ok (Some new) → IsSome new.current
+first_current walk new None e = absurd cc
+first_current walk new (Some found) e = entry_current (record walk { values = found.0; given = 0; deltas = found.1 }) new (entry_at found.0 0 found.1) e
+
+block_current : {V : Type 0} (codec : Codec V) (walk new : Walk V) (found : Found) → to_block codec walk found ≡ Ok (Some new) → IsSome new.current
+block_current codec walk new (Err x) e = absurd cc
+block_current codec walk new (Ok None) e = absurd cc
+block_current codec walk new (Ok (Some found)) e = first_current (record walk { rest = found.1; place = walk.place + (5 + length found.0) }) new (codec.values_of found.0) e
+
+onward_current : {V : Type 0} (codec : Codec V) (walk new : Walk V) (bytes : List ℕ) → onward codec walk bytes ≡ Ok (Some new) → IsSome new.current
+onward_current codec walk new [] e = block_current codec walk new (block_at walk.place walk.rest) e
+onward_current codec walk new (b ∷ bytes) e = entry_current walk new (entry_at walk.values walk.given walk.deltas) e
+
+step_current : {V : Type 0} (codec : Codec V) (walk new : Walk V) (failed : Option BlockError) → step_from codec walk failed ≡ Ok (Some new) → IsSome new.current
+step_current codec walk new (Some x) e = absurd cc
+step_current codec walk new None e = onward_current codec walk new walk.deltas e
+
+pub advances_current : {V : Type 0} (codec : Codec V) (old new : Walk V) (r : Result Bool BlockError) → Advances codec old new r → IfOk r (λ more. IsTrue more → IsSome new.current)
+advances_current codec old new (Ok true) adv = λ t. step_current codec old new old.failed adv
+advances_current codec old new (Ok false) adv = λ t. absurd (false≢true t)
+advances_current codec old new (Err x) adv = tt

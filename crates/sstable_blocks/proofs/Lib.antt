@@ -7,3 +7,4 @@ pub mod Rows
 pub mod RunLaws
 pub mod EntryLaws
 pub mod ReaderLaws
+pub mod WritingLaws

@@ -1,5 +1,5 @@
 -- Laws of numbers in groups of seven bits.
-use Rattle.std.proofs.Common.{◌≡◌, ℕ, zero, suc, ◌+◌, ◌-◌, ◌*◌, ◌/◌, ◌%◌, ◌^◌, ◌<◌, ◌≤◌, List, [], ◌∷◌, ◌++◌, length, take, drop, Bool, true, false, cond, Option, Some, None, refl, ap, sym, ◌∙◌, arith, append_assoc}
+use Rattle.std.proofs.Common.{◌≡◌, ℕ, zero, suc, ◌+◌, ◌-◌, ◌*◌, ◌/◌, ◌%◌, ◌^◌, ◌<◌, ◌≤◌, List, [], ◌∷◌, ◌++◌, length, take, drop, Bool, true, false, cond, Option, Some, None, refl, ap, sym, ◌∙◌, subst, arith, length-drop, append_assoc}
 use Rattle.std.specs.Prelude.{nat_lt, slice_set}
 use Rattle.std.proofs.lemmas.Bool.{lt-ltb, le-ltb, ltb-true, ltb-false}
 use Rattle.std.proofs.Common.{get_or, add-one, drop-cons}
@@ -232,3 +232,55 @@ vint-none bytes front rest n none same fits small is =
     let read : vint_at (front ++ rest) ≡ Some (n, rest) = ap fitting (spelled-read 10 front rest n is fits) ∙ ap (if_fits (n, rest)) (lt-ltb n (2 ^ 64) small) in
     let none_here : vint_at (front ++ rest) ≡ None = ap vint_at (sym same) ∙ none in
     cc
+
+-- What was read is spelled by the bytes before the rest.
+pub record IsSpelled (bytes rest : List ℕ) (n : ℕ) : Type 0 where
+  pub len : ℕ
+  pub within : len ≤ length bytes
+  pub rest_is : rest ≡ drop len bytes
+  pub spells : SpellsVint (take len bytes) n
+
+read-spelled : (k : ℕ) (bytes : List ℕ) (n : ℕ) (rest : List ℕ) → ((i : ℕ) → get_or bytes i 0 < 256) → groups_at k bytes ≡ Some (n, rest) → IsSpelled bytes rest n
+unfolding groups_at
+read-spelled zero bytes n rest fits e = absurd cc
+read-spelled (suc k) [] n rest fits e = absurd cc
+read-spelled (suc k) (b ∷ bytes) n rest fits e = by_test (nat_lt b 128) refl e (λ m left. read-spelled k bytes m left (λ i. fits (suc i)))
+  where
+    more : ℕ × List ℕ → Option (ℕ × List ℕ)
+    more high = Some (b - 128 + 128 * high.0, high.1)
+
+    with_group : (front : List ℕ) (high : ℕ) → 128 ≤ b → n ≡ b - 128 + 128 * high → SpellsVint front high → SpellsVint (b ∷ front) n
+    with_group [] high large is spells = absurd spells
+    with_group (c ∷ front) high large is spells = (large, fits 0, high, omega (arith, large, is), spells)
+
+    by_test : (last : Bool) → nat_lt b 128 ≡ last → cond last (Some (b, bytes)) (groups_at k bytes >>= more) ≡ Some (n, rest)
+        → ((m : ℕ) (left : List ℕ) → groups_at k bytes ≡ Some (m, left) → IsSpelled bytes left m) → IsSpelled (b ∷ bytes) rest n
+    by_test true t e again =
+        let same : (b, bytes) ≡ (n, rest) = some_is _ _ e in
+        record { len = 1; within = omega arith; rest_is = sym (ap (λ (p : ℕ × List ℕ). p.1) same); spells = (ltb-true b 128 t, sym (ap (λ (p : ℕ × List ℕ). p.0) same)) }
+    by_test false t e again =
+        let step = bind_some (groups_at k bytes) more (n, rest) e in
+        let same : (b - 128 + 128 * step.0.0, step.0.1) ≡ (n, rest) = some_is _ _ step.2 in
+        let inner = again step.0.0 step.0.1 step.1 in
+        record {
+          len = suc inner.len;
+          within = omega (arith, inner.within);
+          rest_is = sym (ap (λ (p : ℕ × List ℕ). p.1) same) ∙ inner.rest_is;
+          spells = with_group (take inner.len bytes) step.0.0 (ltb-false b 128 t) (sym (ap (λ (p : ℕ × List ℕ). p.0) same)) inner.spells;
+        }
+
+-- the bytes that were taken spell the number
+pub vint-spelled : (bytes : List ℕ) (n len : ℕ) → ((i : ℕ) → get_or bytes i 0 < 256) → len ≤ length bytes → vint_at bytes ≡ Some (n, drop len bytes) → SpellsVint (take len bytes) n
+unfolding vint_at
+vint-spelled bytes n len fits within e =
+    let step = bind_some (groups_at 10 bytes) (λ found. if_fits found (nat_lt found.0 (2 ^ 64))) (n, drop len bytes) e in
+    by_test step.0 (nat_lt step.0.0 (2 ^ 64)) step.1 step.2
+  where
+    by_test : (found : ℕ × List ℕ) (small : Bool) → groups_at 10 bytes ≡ Some found → if_fits found small ≡ Some (n, drop len bytes) → SpellsVint (take len bytes) n
+    by_test found true read same =
+        let is : found ≡ (n, drop len bytes) = some_is _ _ same in
+        let inner = read-spelled 10 bytes n (drop len bytes) fits (read ∙ ap Some is) in
+        let sizes : length (drop len bytes) ≡ length (drop inner.len bytes) = ap length inner.rest_is in
+        let equal : inner.len ≡ len = omega (arith, sizes, length-drop len bytes, length-drop inner.len bytes, inner.within, within) in
+        subst (λ j. SpellsVint (take j bytes) n) equal inner.spells
+    by_test found false read same = absurd cc

@@ -11,5 +11,7 @@ pub mod Run
 pub mod Entries
 pub mod BlockSteps
 pub mod DeltaReader
+pub mod Writing
+pub mod DeltaWriter
 pub mod Computes
 pub mod Hex

@@ -1,5 +1,5 @@
 // The entries of blocks, one after the other.
-ghost use Rattle.std.specs.Prelude.{◌≡◌, ◌<◌, ◌≤◌, ◌+◌, ◌^◌, List, ℕ, [], length, drop, Option, Some, None, IfOk, IfErr, IfSome, IfNone, OnErr, IsSome, ◌⊎◌};
+ghost use Rattle.std.specs.Prelude.{◌≡◌, ◌<◌, ◌≤◌, ◌+◌, ◌^◌, List, ℕ, [], length, drop, Option, Some, None, IfOk, IfErr, IfSome, IfNone, OnErr, IsSome, IsTrue, ◌⊎◌};
 ghost use Rattle.owned_bytes.specs.Keys.{Key};
 ghost use Rattle.sstable_blocks.specs.Delta.{keep_and_add_at, delta_at};
 ghost use Rattle.sstable_blocks.specs.Values.{count_of};
@@ -168,6 +168,7 @@ impl<T: ValueReader> DeltaReader<T> {
     /// values. An error is answered again by each later call.
     pub fn advance(&mut self) -> Result<bool, BlockError>
         ensures step { Advances T.codec (walk T.loaded self.old) (walk T.loaded self.new) result }
+        ensures current { IfOk result (λ more. IsTrue more → IsSome (walk T.loaded self.new).current) }
         ensures entries { (before : Option Key) (entries : List (Key × T.Value.Shown)) → entries_left T.codec before (walk T.loaded self.old) ≡ Some entries → GivesFirst T.codec before entries (walk T.loaded self.new) result }
     {
         self.advance_onward()

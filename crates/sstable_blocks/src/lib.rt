@@ -7,6 +7,7 @@
 
 mod block_reader;
 mod delta_reader;
+mod delta_writer;
 mod errors;
 mod range;
 mod value;
@@ -14,6 +15,10 @@ pub mod vint;
 
 pub use block_reader::BlockReader;
 pub use delta_reader::DeltaReader;
-pub use errors::{BlockError, ValueError};
+pub use delta_writer::DeltaWriter;
+pub use errors::{BlockError, DeltaError, ValueError};
 pub use range::{RangeValueReader, RangeValueWriter};
 pub use value::{StoredValue, ValueReader, ValueWriter};
+
+#[cfg(test)]
+mod tests;

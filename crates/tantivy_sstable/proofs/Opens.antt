@@ -4,7 +4,7 @@ use Rattle.std.proofs.lemmas.Bool.{ltb-true, ltb-false, ne_eqb}
 use Rattle.std.proofs.lemmas.List.{drop-take, take-take, take_all}
 use Rattle.std.specs.Int.{w32, w64}
 use Rattle.std.specs.Prelude.{slice_range, unwrap_or, option_map, is_some, not, ◌==◌, ◌&&◌, if◌then◌else◌}
-use Rattle.std.specs.declared.ops.Range.{Range}
+use Rattle.common_wire.specs.Slices.{Span}
 use Rattle.owned_bytes.specs.Front.{◌>>=◌, provided, number_at}
 use Rattle.owned_bytes.specs.Outside.{IsPart, HasLength}
 use Rattle.sstable_blocks.specs.Codec.{Codec}
@@ -30,7 +30,7 @@ unfolding whole_sst_of sst_of
 sst_of-parts_none codec table none = ap (λ o. (o >>= (λ (parts : Parts). index_of_version parts.version parts.index_part >>= (λ index. blocks_under codec index parts.count parts.front >>= (λ blocks.
     Some (record { blocks = blocks; index_part = parts.index_part; version = parts.version }))))) >>= (λ (sst : Sst _). Some (entries_of sst.blocks))) none
 
-pub opens-short : {V : Type 0} (codec : Codec V) (contents : Option (List ℕ)) (file : Range ℕ) → file.end - file.start < 4 → OpensAt codec contents file (Err Corrupt)
+pub opens-short : {V : Type 0} (codec : Codec V) (contents : Option (List ℕ)) (file : Span) → file.end - file.start < 4 → OpensAt codec contents file (Err Corrupt)
 opens-short codec None file short = tt
 opens-short codec (Some bytes) file short =
     let table : List ℕ = slice_range bytes file.start file.end in
@@ -52,13 +52,13 @@ pub slice_range-upto : (bytes : List ℕ) (start upto end : ℕ) → start ≤ u
 slice_range-upto bytes start upto end a b = take-take (upto - start) (end - start) (drop start bytes) (omega (arith, a, b))
 
 -- the table that stands at a range of a file
-abbrev pub table_at : List ℕ → Range ℕ → List ℕ
+abbrev pub table_at : List ℕ → Span → List ℕ
 table_at bytes file = slice_range bytes file.start file.end
 
-pub length-table : (bytes : List ℕ) (file : Range ℕ) → file.start ≤ file.end → file.end ≤ length bytes → length (table_at bytes file) ≡ file.end - file.start
+pub length-table : (bytes : List ℕ) (file : Span) → file.start ≤ file.end → file.end ≤ length bytes → length (table_at bytes file) ≡ file.end - file.start
 length-table bytes file ordered fits = omega (arith, ordered, fits, length-take (file.end - file.start) (drop file.start bytes), length-drop file.start bytes)
 
-pub ending-of_table : (bytes : List ℕ) (file : Range ℕ) (ending : List ℕ) → file.start ≤ file.end → file.end ≤ length bytes
+pub ending-of_table : (bytes : List ℕ) (file : Span) (ending : List ℕ) → file.start ≤ file.end → file.end ≤ length bytes
     → ending ≡ slice_range bytes (file.end - min (file.end - file.start) 20) file.end → length ending ≡ min (file.end - file.start) 20
     → drop (file.end - file.start - length ending) (table_at bytes file) ≡ ending
 ending-of_table bytes file ending ordered fits is len =
@@ -68,11 +68,11 @@ ending-of_table bytes file ending ordered fits is len =
     ∙ sym is
 
 -- what the end of a table tells, where the contents are told
-abbrev pub Tells : Option (List ℕ) → Range ℕ → (List ℕ → Type 0) → Type 0
+abbrev pub Tells : Option (List ℕ) → Span → (List ℕ → Type 0) → Type 0
 Tells None file fact = Unit {0}
 Tells (Some bytes) file fact = fact (table_at bytes file)
 
-pub told-of : (contents : Option (List ℕ)) (file : Range ℕ) (ending : List ℕ) (size k : ℕ) (fact : List ℕ → Type 0) → HasLength contents size → file.start ≤ file.end → file.end ≤ size
+pub told-of : (contents : Option (List ℕ)) (file : Span) (ending : List ℕ) (size k : ℕ) (fact : List ℕ → Type 0) → HasLength contents size → file.start ≤ file.end → file.end ≤ size
     → k ≡ min (file.end - file.start) 20 → IsPart contents (file.end - k) file.end ending → length ending ≡ file.end - (file.end - k)
     → ((table : List ℕ) → length table ≡ file.end - file.start → drop (file.end - file.start - length ending) table ≡ ending → fact table) → Tells contents file fact
 told-of None file ending size k fact long ordered fits is part len all = tt
@@ -89,7 +89,7 @@ opens-by_footer codec bytes table (Compressed place) told = absurd told
 opens-by_footer codec bytes table (Version version) told = told
 opens-by_footer codec bytes table NotYet told = told
 
-pub opens-footer : {V : Type 0} (codec : Codec V) (contents : Option (List ℕ)) (file : Range ℕ) (e : SstError) → Tells contents file (λ table. ReadsFooter table (Err e)) → OpensAt codec contents file (Err e)
+pub opens-footer : {V : Type 0} (codec : Codec V) (contents : Option (List ℕ)) (file : Span) (e : SstError) → Tells contents file (λ table. ReadsFooter table (Err e)) → OpensAt codec contents file (Err e)
 opens-footer codec None file e told = tt
 opens-footer codec (Some bytes) file e told = opens-by_footer codec bytes (table_at bytes file) e told
 
@@ -212,7 +212,7 @@ opens-by_index codec bytes table part footer NotYet h is reads =
     ∙ ap (λ t. is_some (provided (not t))) (ne_eqb _ _ (λ zero. reads.2 (sym reads.3.1 ∙ zero)))
 
 -- where the index part stands in the file
-part-of_table : (bytes : List ℕ) (file : Range ℕ) (offset : ℕ) → file.start ≤ file.end → file.end ≤ length bytes → offset + 20 ≤ file.end - file.start
+part-of_table : (bytes : List ℕ) (file : Span) (offset : ℕ) → file.start ≤ file.end → file.end ≤ length bytes → offset + 20 ≤ file.end - file.start
     → slice_range bytes (file.start + offset) (file.end - 20) ≡ drop offset (body_of (table_at bytes file))
 part-of_table bytes file offset ordered fits room =
     let body : body_of (table_at bytes file) ≡ slice_range bytes file.start (file.end - 20) =
@@ -222,14 +222,14 @@ part-of_table bytes file offset ordered fits room =
     sym (ap (drop offset) body ∙ ap (λ n. drop n (slice_range bytes file.start (file.end - 20))) (sym place)
     ∙ slice_range-from bytes file.start (file.start + offset) (file.end - 20) (omega arith) (omega (arith, room)))
 
-pub opens-index : {V : Type 0} (codec : Codec V) (contents : Option (List ℕ)) (file : Range ℕ) (part : List ℕ) (footer : code.Footer) (size : ℕ) (e : SstError) → HasLength contents size → file.start ≤ file.end → file.end ≤ size
+pub opens-index : {V : Type 0} (codec : Codec V) (contents : Option (List ℕ)) (file : Span) (part : List ℕ) (footer : code.Footer) (size : ℕ) (e : SstError) → HasLength contents size → file.start ≤ file.end → file.end ≤ size
     → footer.index_offset + 20 ≤ file.end - file.start → Tells contents file (λ table. HasFooter table footer) → IsPart contents (file.start + footer.index_offset) (file.end - 20) part → ReadsIndex footer part (Err e) → OpensAt codec contents file (Err e)
 opens-index codec None file part footer size e long ordered fits room told is reads = tt
 opens-index codec (Some bytes) file part footer size e long ordered fits room told is reads =
     opens-by_index codec bytes (table_at bytes file) part footer e told (is ∙ part-of_table bytes file footer.index_offset ordered (omega (arith, long, fits)) room) reads
 
 -- the bytes that are fetched are the footer and the index part
-pub fetches-index : (contents : Option (List ℕ)) (file : Range ℕ) (footer : code.Footer) (size k before between now : ℕ) → HasLength contents size → file.start ≤ file.end → file.end ≤ size
+pub fetches-index : (contents : Option (List ℕ)) (file : Span) (footer : code.Footer) (size k before between now : ℕ) → HasLength contents size → file.start ≤ file.end → file.end ≤ size
     → k ≡ min (file.end - file.start) 20 → Tells contents file (λ table. HasFooter table footer)
     → between ≤ before + (file.end - (file.end - k)) → now ≤ between + (file.end - 20 - (file.start + footer.index_offset)) → FetchesIndex contents file before now
 fetches-index None file footer size k before between now long ordered fits is told first second = tt
@@ -257,7 +257,7 @@ unfolding by_index
 found-is codec table footer index h is = sst_of-by_index codec table (parts_by table footer) (Some index) (parts-of table footer h) is
 
 -- the front of a table stands at the front of its range
-front-of_table : (bytes : List ℕ) (file : Range ℕ) (offset : ℕ) → file.start ≤ file.end → file.end ≤ length bytes → offset + 20 ≤ file.end - file.start
+front-of_table : (bytes : List ℕ) (file : Span) (offset : ℕ) → file.start ≤ file.end → file.end ≤ length bytes → offset + 20 ≤ file.end - file.start
     → slice_range bytes file.start (file.start + offset) ≡ take offset (body_of (table_at bytes file))
 front-of_table bytes file offset ordered fits room =
     let place : file.start + offset - file.start ≡ offset = omega arith in
@@ -279,7 +279,7 @@ waits-not table part footer (V3Empty index) h is reads =
     is_waiting-v3 table (body_of table) part (record { index_offset = footer.index_offset; count = footer.num_terms; version = footer.version }) h.read reads.0 (length-body table footer h) is reads.1.0
     ∙ ap (λ n. is_some (provided (not (n == 0)))) reads.1.1
 
-pub opens-found : {V : Type 0} (codec : Codec V) (contents : Option (List ℕ)) (file front : Range ℕ) (part : List ℕ) (footer : code.Footer) (index : SSTableIndex) (size : ℕ) → HasLength contents size → file.start ≤ file.end → file.end ≤ size
+pub opens-found : {V : Type 0} (codec : Codec V) (contents : Option (List ℕ)) (file front : Span) (part : List ℕ) (footer : code.Footer) (index : SSTableIndex) (size : ℕ) → HasLength contents size → file.start ≤ file.end → file.end ≤ size
     → footer.index_offset + 20 ≤ file.end - file.start → Tells contents file (λ table. HasFooter table footer) → IsPart contents (file.start + footer.index_offset) (file.end - 20) part → ReadsIndex footer part (Ok index)
     → front.start ≡ file.start → front.end ≡ file.start + footer.index_offset
     → OpensAt codec contents file (Ok (record { blocks_range = front; index = shown_index index; num_terms = footer.num_terms }))
@@ -295,8 +295,15 @@ opens-found codec (Some bytes) file front part footer index size long ordered fi
           ∙ sym (found-is codec (table_at bytes file) footer (shown_index index) told (index-is (table_at bytes file) part footer index told whole reads)),
     )
 
+-- a span with these bounds
+abbrev pub span : ℕ → ℕ → Span
+span start end = record { start = start; end = end }
+
+pub same-span : (start end : ℕ) (file : Span) → start ≡ file.start → end ≡ file.end → span start end ≡ file
+same-span start end file a b = ap (λ n. span n end) a ∙ ap (λ n. span file.start n) b
+
 -- a file of these bytes, opened whole
-pub opens-whole : {V : Type 0} (codec : Codec V) (contents bytes : List ℕ) (file : Range ℕ) (result : Result Opened SstError) → contents ≡ bytes → file.start ≡ 0 → file.end ≡ length contents → OpensAt codec (Some contents) file result → Opens codec bytes bytes result
+pub opens-whole : {V : Type 0} (codec : Codec V) (contents bytes : List ℕ) (file : Span) (result : Result Opened SstError) → contents ≡ bytes → file.start ≡ 0 → file.end ≡ length contents → OpensAt codec (Some contents) file result → Opens codec bytes bytes result
 opens-whole codec contents bytes file result same start end opened =
     let whole : table_at contents file ≡ contents =
     ap (λ n. slice_range contents n file.end) start ∙ ap (λ n. slice_range contents 0 n) end ∙ take_all (length contents - 0) contents (omega arith) in

@@ -8,5 +8,7 @@ pub mod Opened
 pub mod Opening
 pub mod Shown
 pub mod Steps
+pub mod Reading
+pub mod Reader
 pub mod Computes
 pub mod Rows

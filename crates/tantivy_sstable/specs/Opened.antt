@@ -1,6 +1,6 @@
 -- What a dictionary knows of its table.
 use Rattle.std.specs.Prelude.{ℕ, List, slice_range, Option, option_and_then}
-use Rattle.std.specs.declared.ops.Range.{Range}
+use Rattle.common_wire.specs.Slices.{Span}
 use Rattle.owned_bytes.specs.Keys.{Key}
 use Rattle.sstable_blocks.specs.Codec.{Codec}
 use Rattle.tantivy_sstable.specs.Index.{Index}
@@ -8,7 +8,7 @@ use Rattle.tantivy_sstable.specs.Table.{entries_under}
 
 -- where in the file the part of the table before its index stands, the index, and how many entries there are
 pub record Opened : Type 0 where
-  pub blocks_range : Range ℕ
+  pub blocks_range : Span
   pub index : Index
   pub num_terms : ℕ
 

@@ -1,7 +1,7 @@
 -- What a table answers when it is opened.
 use Rattle.std.specs.Prelude.{◌≡◌, ℕ, ◌+◌, ◌≤◌, List, [], length, drop, slice_range, ⊤, Bool, true, false, Option, Some, None, is_some, unwrap_or, option_map, Result, Ok, Err, nat_le, ◌&&◌, ◌||◌, ◌==◌, not, ◌⊎◌}
 use Rattle.std.specs.Int.{w8, w32, w64}
-use Rattle.std.specs.declared.ops.Range.{Range}
+use Rattle.common_wire.specs.Slices.{Span}
 use Rattle.owned_bytes.specs.Front.{◌>>=◌, provided, number_at}
 use Rattle.sstable_blocks.specs.Codec.{Codec}
 use Rattle.tantivy_sstable.specs.Footer.{footer_at}
@@ -63,12 +63,12 @@ Opens codec contents table (Err (Version version)) = (version_of table ≡ Some 
 Opens codec contents table (Err NotYet) = is_waiting table ≡ true
 
 -- the same of the table that stands at a range of the contents, where they are told
-abbrev pub OpensAt : {V : Type 0} → Codec V → Option (List ℕ) → Range ℕ → Result Opened SstError → Type 0
+abbrev pub OpensAt : {V : Type 0} → Codec V → Option (List ℕ) → Span → Result Opened SstError → Type 0
 OpensAt codec None range result = ⊤
 OpensAt codec (Some contents) range result = Opens codec contents (slice_range contents range.start range.end) result
 
 -- Where the contents are told, a count rose by no more than the lengths of the footer and the index part.
-abbrev pub FetchesIndex : Option (List ℕ) → Range ℕ → ℕ → ℕ → Type 0
+abbrev pub FetchesIndex : Option (List ℕ) → Span → ℕ → ℕ → Type 0
 FetchesIndex None range before now = ⊤
 FetchesIndex (Some contents) range before now =
     now ≤ before + (20 + length (index_part_of (slice_range contents range.start range.end)))
@@ -78,7 +78,7 @@ abbrev pub IsReadError : SstError → Type 0
 IsReadError error = (error ≡ Memory) ⊎ (error ≡ Read)
 
 -- a range lies within another
-pub record LiesWithin (inner outer : Range ℕ) : Type 0 where
+pub record LiesWithin (inner outer : Span) : Type 0 where
   pub start : outer.start ≤ inner.start
   pub ordered : inner.start ≤ inner.end
   pub end : inner.end ≤ outer.end

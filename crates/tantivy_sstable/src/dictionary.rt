@@ -3,8 +3,11 @@ ghost use Rattle.std.specs.Prelude.{◌≡◌, ◌≢◌, ◌≤◌, ◌+◌, �
 ghost use Rattle.std.specs.Int.{w32, w64, from_le_bytes};
 ghost use Rattle.owned_bytes.specs.Outside.{HasCause, RisesAtMost, IsPart};
 ghost use Rattle.tantivy_sstable.specs.Opening.{Opens, OpensAt, without_file, FetchesIndex, LiesWithin, IsReadError, is_known};
+ghost use Rattle.tantivy_sstable.specs.Opened.{entries_told};
+ghost use Rattle.tantivy_sstable.specs.Reading.{FindsTold, IsReadingError};
 ghost use Rattle.tantivy_sstable.specs.Steps.{ReadsFooter, ReadsIndex};
 
+use crate::lookup::value_in;
 use crate::{SSTable, SSTableIndex, SSTableIndexV2, SSTableIndexV3Empty, SstError};
 use common_wire::FileSlice;
 use owned_bytes::{BytesFile, FileHandle, HandleError, OwnedBytes};
@@ -121,6 +124,32 @@ impl<S: SSTable> Dictionary<S> {
             Ok(dictionary) => Ok((dictionary, file)),
             Err(e) => Err(e),
         }
+    }
+
+    /// The value at a key; `None` where the key is not there. It reads one block.
+    pub fn get<H: FileHandle>(
+        &self,
+        alloc: Global,
+        handle: &mut H,
+        key: &[u8],
+    ) -> Result<Option<S::Value>, SstError>
+        requires { self.now.blocks_range.end ≤ H.size handle.old }
+        ensures found { FindsTold S.Value.shown (entries_told S.ValueReader.codec self.now (H.contents handle.old)) key.now result }
+        ensures error { IfErr result IsReadingError }
+        ensures contents { H.contents handle.new ≡ H.contents handle.old }
+        ensures size { H.size handle.new ≡ H.size handle.old }
+        ensures cause { HasCause (H.faults handle.old) (H.faults handle.new) (result ≡ Err SstError.Read) }
+        ensures reads { RisesAtMost (H.reads handle.old) (H.reads handle.new) 1 }
+        ensures fetched { RisesAtMost (H.fetched handle.old) (H.fetched handle.new) (self.now.blocks_range.end - self.now.blocks_range.start) }
+    {
+        if let SSTableIndex::V2(_) = &self.sstable_index {
+            return Ok(None);
+        }
+        let blocks = match read_part(alloc, handle, self.sstable_slice.range()) {
+            Ok(blocks) => blocks,
+            Err(e) => return Err(e),
+        };
+        value_in::<S>(alloc, blocks, key)
     }
 }
 

@@ -1,4 +1,5 @@
 // What calls of this crate answer where they can't do what they were asked for.
+use sstable_blocks::BlockError;
 use std::alloc::AllocError;
 use thiserror::Error;
 
@@ -31,5 +32,20 @@ impl From<AllocError> for SstError {
 
     fn from(_error: AllocError) -> Self {
         SstError::Memory
+    }
+}
+
+impl From<BlockError> for SstError {
+    ghost use Rattle.std.specs.Prelude.{◌≡◌};
+    ghost use Rattle.tantivy_sstable.specs.Reading.{error_of_block};
+
+    ghost from_gives = { λ error e. e ≡ error_of_block error };
+
+    fn from(error: BlockError) -> Self {
+        match error {
+            BlockError::Memory => SstError::Memory,
+            BlockError::Corrupt => SstError::Corrupt,
+            BlockError::Compressed(place) => SstError::Compressed(place),
+        }
     }
 }

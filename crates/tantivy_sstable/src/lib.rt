@@ -7,11 +7,14 @@
 mod dictionary;
 mod errors;
 mod index;
+mod lookup;
+mod reader;
 mod table;
 
 pub use dictionary::Dictionary;
 pub use errors::SstError;
 pub use index::{SSTableIndex, SSTableIndexV2, SSTableIndexV3Empty};
+pub use reader::Reader;
 pub use table::{RangeSSTable, SSTable};
 
 #[cfg(test)]

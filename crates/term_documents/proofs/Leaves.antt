@@ -1,9 +1,10 @@
 -- Each printed leaf is read again.
 use Rattle.std.proofs.Common.{◌≡◌, ◌∙◌, sym, ap, refl, ℕ, zero, suc, ◌+◌, ◌≤◌, Bool, true, false, not, ◌==◌, List, [], ◌∷◌, ◌++◌, map, length, length-append, append_assoc, arith, true≢false, None}
 use Rattle.std.specs.Prelude.{encode_utf8_all, codes}
+use Rattle.query_tree.specs.Aggregation.{negated}
 use Rattle.query_tree.specs.Characters.{minus, colon, opening, closing, star, double_quote, is_special, is_space, is_escaped, is_after_star, is_word_character, is_field_character}
 use Rattle.query_tree.specs.Reader.{Found, Failed, Reader, one, skip, tag, is_before, joined, repeated_up_to}
-use Rattle.query_tree.specs.Grammar.{field, quoted_piece, quoted, simple_term, negative_number, word, term, term_end, slop, bare_leaf, range, half_range, full_range, sign, bracket, set, elements, next_element, exists, star_alone, regex, plain_leaf, field_group, parenthesized, negation, negated, leaf_enclosing}
+use Rattle.query_tree.specs.Grammar.{field, quoted_piece, quoted, simple_term, negative_number, word, term, term_end, slop, bare_leaf, range, half_range, full_range, sign, bracket, set, elements, next_element, exists, star_alone, regex, plain_leaf, field_group, parenthesized, negation, leaf_enclosing}
 use Rattle.query_tree.specs.Rewriting.{with_field, leaf_under_field}
 use Rattle.query_tree.specs.declared.tree.Delimiter.TheVariants as delimiter
 use Rattle.query_tree.specs.declared.tree.UserInputLeaf.{UserInputLeaf}

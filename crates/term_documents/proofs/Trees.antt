@@ -1,9 +1,10 @@
 -- The tree of a printed expression, and its text read again.
 use Rattle.std.proofs.Common.{◌≡◌, ◌∙◌, sym, ap, refl, subst, ℕ, zero, suc, max, ◌≤◌, Bool, true, false, not, ◌&&◌, ◌==◌, true≢false, List, [], ◌∷◌, ◌++◌, map, append_assoc, append-nil, arith, Option, Some, None}
 use Rattle.std.specs.Prelude.{encode_utf8_all, codes}
+use Rattle.query_tree.specs.Aggregation.{negated}
 use Rattle.query_tree.specs.Characters.{is_space, is_special, minus, plus, backslash, colon, opening, closing, star}
 use Rattle.query_tree.specs.Reader.{Found, Failed, skip, end}
-use Rattle.query_tree.specs.Grammar.{leaf, ast, enclosed_leaf, enclosed_tree, negated, query, max_levels, bare_leaf}
+use Rattle.query_tree.specs.Grammar.{leaf, ast, enclosed_leaf, enclosed_tree, query, max_levels, bare_leaf}
 use Rattle.query_tree.specs.Rewriting.{leaf_under_field}
 use Rattle.query_tree.specs.declared.tree.UserInputLeaf.{UserInputLeaf}
 use Rattle.query_tree.specs.declared.tree.UserInputLeaf.TheVariants as leaves

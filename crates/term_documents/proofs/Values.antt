@@ -5,6 +5,7 @@ use Rattle.std.specs.List.{list_all, list_any, starts_with}
 use Rattle.std.proofs.Math.Bool.{and-true, or-false}
 use Rattle.std.proofs.Math.Dec.{eqb-suc-zero}
 use Rattle.std.proofs.lemmas.List.Folds.{list_any-append, list_all-append}
+use Rattle.query_tree.specs.Aggregation.{negated}
 use Rattle.query_tree.specs.declared.tree.Occur.{Occur}
 use Rattle.query_tree.specs.declared.tree.Occur.TheVariants.{Should, Must, MustNot}
 use Rattle.query_tree.specs.declared.tree.UserInputLeaf.{UserInputLeaf}
@@ -12,7 +13,6 @@ use Rattle.query_tree.specs.declared.tree.UserInputAst.{UserInputAst, fold-roll-
 use Rattle.query_tree.specs.declared.tree.UserInputAst.TheVariants as tree
 use Rattle.query_tree.specs.declared.tree.UserInputAst.TheVariants.{rolls-Clause, rolls-Leaf}
 use Rattle.query_tree.specs.declared.tree.UserInputAst.TheOpen.{Clause, Leaf}
-use Rattle.query_tree.specs.Grammar.{negated}
 use Rattle.query_tree.specs.Printing.{Expression, Term, Prefix, Range, Set, Exists, Not, And, Or}
 use Rattle.query_tree.specs.Rewriting.{leaf_under_field, rewritten, rewritten_clause, without_repeats, unwrapped, same_pair, same_occur, same_tree}
 use Rattle.query_tree.proofs.Equations.{rewritten-Clause, rewritten-Leaf}

@@ -75,7 +75,7 @@ below_where_same n p q agree =
 
 -- ---- how many
 
-one_more : (n : ℕ) (p : ℕ → Bool) → p n ≡ true → below_where (suc n) p ≡ insert (below_where n p) n
+pub one_more : (n : ℕ) (p : ℕ → Bool) → p n ≡ true → below_where (suc n) p ≡ insert (below_where n p) n
 one_more n p here = alike _ _ (λ e. contains_below_where (suc n) p e ∙ grown e ∙ ap (λ b. nat_eq e n || b) (sym (contains_below_where n p e)) ∙ sym (contains_insert (below_where n p) n e))
   where
     grown : (e : ℕ) → (ltb e (suc n) && p e) ≡ (nat_eq e n || (ltb e n && p e))
@@ -87,7 +87,7 @@ one_more n p here = alike _ _ (λ e. contains_below_where (suc n) p e ∙ grown 
       ])
     ]
 
-no_more : (n : ℕ) (p : ℕ → Bool) → p n ≡ false → below_where (suc n) p ≡ below_where n p
+pub no_more : (n : ℕ) (p : ℕ → Bool) → p n ≡ false → below_where (suc n) p ≡ below_where n p
 no_more n p here = alike _ _ (λ e. contains_below_where (suc n) p e ∙ kept e ∙ sym (contains_below_where n p e))
   where
     kept : (e : ℕ) → (ltb e (suc n) && p e) ≡ (ltb e n && p e)
@@ -284,3 +284,6 @@ len-complement n s within =
   where
     others : difference (below n) s ≡ below_where n (λ e. not (contains s e))
     others = alike _ _ (λ e. contains_difference (below n) s e ∙ ap (λ b. b && not (contains s e)) (contains_below n e) ∙ sym (contains_below_where n (λ e. not (contains s e)) e))
+
+pub below_where_none : (p : ℕ → Bool) → below_where 0 p ≡ empty
+below_where_none p = alike _ empty (λ e. contains_below_where 0 p e ∙ ap (λ b. b && p e) (le-ltb e 0 (omega arith)) ∙ sym (contains_empty e))

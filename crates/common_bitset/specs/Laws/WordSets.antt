@@ -1,5 +1,5 @@
 -- What the operations on words of bits do to the sets of their elements.
-use Rattle.std.proofs.Common.{◌≡◌, ℕ, zero, suc, ◌+◌, ◌-◌, ◌*◌, ◌/◌, ◌%◌, ◌^◌, ◌<◌, ◌≤◌, min, max, ◌&&◌, ◌||◌, not, Bool, true, false, cond, List, ◌∷◌, refl, sym, ap, ◌∙◌, arith, nat_eq, eqb, ltb, inl, inr, length, filter, sum_by, count_ones, bit_and, bit_or, w64, one-add, add-one, pow-suc, mod-eq_of_lt, lit<, Option, None, Some, IsNone, IfSome, ◌↔◌, zero-mul, zero-add, add-zero, suc-mul, mul-one, div-one}
+use Rattle.std.proofs.Common.{◌≡◌, ℕ, zero, suc, ◌+◌, ◌-◌, ◌*◌, ◌/◌, ◌%◌, ◌^◌, ◌<◌, ◌≤◌, min, max, ◌&&◌, ◌||◌, not, Bool, true, false, cond, List, ◌∷◌, refl, sym, ap, ◌∙◌, arith, nat_eq, eqb, ltb, inl, inr, length, filter, sum_by, count_ones, bit_and, bit_or, w64, one-add, add-one, pow-suc, mod-eq_of_lt, lit<, Option, None, Some, IsNone, IfSome, ◌↔◌, zero-mul, zero-add, add-zero, suc-mul, mul-one, div-one, subst}
 use Rattle.std.specs.List.{range_with_len}
 use Rattle.std.specs.Int.{bit_at, bit_not, trailing_zeros}
 use Rattle.std.specs.Int.Count.{ones_step, ones-le}
@@ -9,14 +9,14 @@ use Rattle.std.specs.Iterator.{YieldsFirst}
 use Rattle.std.specs.FinSet.{empty, insert, remove, contains, union, intersection, difference, len}
 use Rattle.std.proofs.lemmas.Bool.{and_right, cases_eq, cases_lt, cases_order, le-ltb, lt-ltb, eq-eqb, ne_eqb, eqb-true, ltb-true}
 use Rattle.std.proofs.lemmas.Bool.Decides.{nat_tests}
-use Rattle.std.proofs.lemmas.Nat.{shr-shr, mod-pow-add, mod_below, one_shl, pow_pos, shr_split, pow-add}
+use Rattle.std.proofs.lemmas.Nat.{shr-shr, mod-pow-add, mod_below, one_shl, pow_pos, shr_split, pow-add, or_lt, pow_below}
 use Rattle.std.proofs.lemmas.Nat.Bits.{bit_at-lt, bit_at_and, bit_at_or, bit_at_not, bit_at-zero, bit_at_ones, bit_at_ones_above, bit_at-pow_same, bit_at-pow_other, bit_at-trailing_zeros, bit_at_lowest, bit_at-suc, bit_at_cat_low, bit_at_cat_high, same_from_bits_below, shr_and_one}
 use Rattle.std.proofs.lemmas.List.Sums.{sum_by-cons}
 use Rattle.std.proofs.lemmas.List.{length-map}
-use Rattle.common_bitset.specs.Numbers.{Numbers, below, IsBelow, rising, same, IsLeast, without}
+use Rattle.common_bitset.specs.Numbers.{Numbers, below, IsBelow, rising, same, IsLeast, without, below_where}
 use Rattle.common_bitset.specs.Words.{elements_of, word_of}
 use Rattle.common_bitset.specs.Laws.Ranges.{filter_same, filter_moved}
-use Rattle.common_bitset.specs.Laws.Sets.{alike, contains_insert, contains_remove, contains_below, contains_below_where, contains_union, contains_intersection, contains_difference, contains_empty, IsBelow-below_where, len_below_where, rising_of_where, rising_empty, rising_first, same-Decides, intersection-others}
+use Rattle.common_bitset.specs.Laws.Sets.{alike, contains_insert, contains_remove, contains_below, contains_below_where, contains_union, contains_intersection, contains_difference, contains_empty, IsBelow-below_where, len_below_where, rising_of_where, rising_empty, rising_first, same-Decides, intersection-others, one_more, no_more, union-single, below_where_of, below_where_none}
 
 -- the test of one bit
 abbrev has : ℕ → ℕ → Bool
@@ -315,3 +315,34 @@ pop_is_step s t None none least below_end after =
     let no_element : s ≡ empty = none.0 refl in
     (ap (rising 64) no_element ∙ rising_empty 64, ap (rising 64) (after ∙ no_element) ∙ rising_empty 64)
 pop_is_step s t (Some el) none least below_end after = rising_first 64 el s below_end least ∙ ap (λ u. el ∷ rising 64 u) (sym after)
+
+-- ---- every set below 64 is that of a word
+
+record Spelled (s : Numbers) : Type 0 where
+  word : ℕ
+  small : word < 2 ^ 64
+  is : elements_of word ≡ s
+
+spelled_below : (n : ℕ) (p : ℕ → Bool) → n ≤ 64 → Spelled (below_where n p)
+spelled_below zero p h = record { word = 0; small = lit< tt; is = elements-zero ∙ sym (below_where_none p) }
+spelled_below (suc n) p h =
+    let fewer_ones = spelled_below n p (omega arith) in
+    elim (p n) as (λ b. p n ≡ b → Spelled (below_where (suc n) p)) [
+      | true ↦ λ here. record {
+        word = bit_or fewer_ones.word (2 ^ n);
+        small = or_lt 64 fewer_ones.word (2 ^ n) fewer_ones.small (pow_below n 64 (omega arith));
+        is = elements-or fewer_ones.word (2 ^ n) ∙ (λ i. union (fewer_ones.is i) (elements-pow n (omega arith) i)) ∙ union-single (below_where n p) n ∙ sym (one_more n p here);
+      }
+      | false ↦ λ here. record { word = fewer_ones.word; small = fewer_ones.small; is = fewer_ones.is ∙ sym (no_more n p here) }
+    ] refl
+
+spelled : (s : Numbers) → IsBelow 64 s → Spelled s
+spelled s within = let w = spelled_below 64 (contains s) (omega arith) in record { word = w.word; small = w.small; is = w.is ∙ below_where_of 64 s within }
+
+pub elements-word_of : (s : Numbers) → IsBelow 64 s → elements_of (word_of s) ≡ s
+elements-word_of s within = let w = spelled s within in ap (λ t. elements_of (word_of t)) (sym w.is) ∙ ap elements_of (word_of-elements w.word w.small) ∙ w.is
+
+pub word_of-lt : (s : Numbers) → IsBelow 64 s → word_of s < 2 ^ 64
+word_of-lt s within = let w = spelled s within in
+    let e : word_of s ≡ w.word = ap word_of (sym w.is) ∙ word_of-elements w.word w.small in
+    subst (λ x. x < 2 ^ 64) (sym e) w.small
