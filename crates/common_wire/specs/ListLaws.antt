@@ -7,7 +7,7 @@ use Rattle.std.specs.Str.{is_utf8}
 use Rattle.std.proofs.lemmas.Bool.{le-leb}
 use Rattle.std.proofs.lemmas.Str.{is_utf8-from_IsUtf8}
 use Rattle.common_wire.specs.Taking.{Taking, Value, continued, ◌>>=◌, give, only_if, bytes_of, counted}
-use Rattle.common_wire.specs.Wire.{vint, vint_bytes, length_taken, max_length, text, text_of, text_bytes, list_of, list_bytes}
+use Rattle.common_wire.specs.Wire.{vint, vint_bytes, length_taken, max_length, text, text_of, text_bytes, blob, list_of, list_bytes}
 use Rattle.common_wire.specs.Serialized.{IsTaking}
 use Rattle.common_wire.specs.TakingLaws.{IsTaking-give, IsTaking-then, IsTaking-only_if, IsTaking-bytes_of, IsTaking-counted, bytes_of-again}
 use Rattle.common_wire.specs.GroupLaws.{IsTaking-vint, vint-again}
@@ -62,3 +62,13 @@ list-again item wire written fits can again xs rest all_fit short all_can =
     ∙ ap (λ l. continued (length_taken l) (λ m. counted m item)) (append_assoc (vint_bytes (length xs)) (flat_map wire (map written xs)) rest)
     ∙ ap (λ taken. continued taken (λ m. counted m item)) (length-again (length xs) (flat_map wire (map written xs) ++ rest) short)
     ∙ counted-again item wire written fits can again xs rest all_fit all_can
+
+pub IsTaking-blob : IsTaking blob
+unfolding blob
+IsTaking-blob = IsTaking-then length_taken _ IsTaking-length (λ n. IsTaking-bytes_of n)
+
+pub blob-again : (bytes rest : List ℕ) → length bytes ≤ max_length → blob (text_bytes bytes ++ rest) ≡ Value bytes rest
+unfolding blob text_bytes
+blob-again bytes rest fits =
+    ap (λ l. continued (length_taken l) bytes_of) (append_assoc (vint_bytes (length bytes)) bytes rest)
+    ∙ ap (λ taken. continued taken bytes_of) (length-again (length bytes) (bytes ++ rest) fits) ∙ bytes_of-again bytes rest

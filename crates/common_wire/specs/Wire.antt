@@ -80,6 +80,12 @@ text = do
   n ← length_taken
   text_of n
 
+-- a length, and then so many bytes
+unfoldable pub blob : Taking (List ℕ)
+blob = do
+  n ← length_taken
+  bytes_of n
+
 unfoldable pub text_bytes : List ℕ → List ℕ
 text_bytes bytes = vint_bytes (length bytes) ++ bytes
 

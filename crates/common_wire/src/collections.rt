@@ -3,14 +3,14 @@ ghost use Rattle.std.specs.Prelude.{◌≡◌, ◌≢◌, ℕ, List, ◌+◌, �
 ghost use Rattle.std.specs.List.{flat_map};
 ghost use Rattle.owned_bytes.specs.Outside.{HasCause, WritesAll};
 ghost use Rattle.common_wire.specs.Taking.{bytes_of, counted};
-ghost use Rattle.common_wire.specs.Wire.{length_taken, max_length, text, text_of, text_bytes, list_of, list_bytes, vint_bytes};
+ghost use Rattle.common_wire.specs.Wire.{length_taken, max_length, text, text_of, text_bytes, blob, list_of, list_bytes, vint_bytes};
 ghost use Rattle.common_wire.specs.Serialized.{Takes};
 
 use crate::reading::read_exact;
 use crate::{BinarySerializable, VInt, WireError};
 use owned_bytes::{Items, Sink, SinkError, Source, Text};
 use std::alloc::Global;
-use std::borrow::CowStr;
+use std::borrow::{CowSlice, CowStr};
 
 /// The greatest length of a text or a list.
 pub const MAX_LENGTH: u64 = 0xffff_ffff;
@@ -59,6 +59,16 @@ fn read_text<R: Source>(alloc: Global, count: usize, reader: &mut R) -> Result<S
         Ok(text) => Ok(text),
         Err(_) => Err(WireError::Invalid),
     }
+}
+
+// A length, and then so many bytes.
+fn read_blob<R: Source>(alloc: Global, reader: &mut R) -> Result<Vec<u8>, WireError>
+    ensures bytes { Takes (λ v. v.items) blob (R.left reader.old) (R.left reader.new) result }
+    ensures cause { HasCause (R.faults reader.old) (R.faults reader.new) (result ≡ Err WireError.Failed) }
+    ensures taken { R.taken reader.old ≤ R.taken reader.new }
+{
+    let count = deserialize_length(reader)?;
+    read_bytes(alloc, count as usize, reader)
 }
 
 // A text's bytes.
@@ -239,6 +249,51 @@ impl<'a> BinarySerializable for CowStr<'a, Global> {
         match self {
             CowStr::Borrowed(text) => text_num_bytes(text.as_bytes()),
             CowStr::Owned(text) => text_num_bytes(text.as_bytes()),
+        }
+    }
+}
+
+impl<'a> BinarySerializable for CowSlice<'a, u8, Global> {
+    ghost use Rattle.std.specs.Cow.{cow_slice_items};
+    ghost use Rattle.common_wire.specs.ListLaws.{IsTaking-blob, blob-again};
+
+    type Shown = Items<u8>;
+
+    ghost shown = { cow_slice_items };
+
+    ghost is_value = { All (λ b. b < 2 ^ 8) };
+
+    ghost can_write = { λ bytes. length bytes ≤ max_length };
+
+    ghost as_written = { λ bytes. bytes };
+
+    ghost wire = { text_bytes };
+
+    ghost taking = { blob };
+
+    ghost is_taking = { IsTaking-blob };
+
+    ghost again = { λ bytes rest fits can. blob-again bytes rest can };
+
+    fn serialize<W: Sink>(&self, writer: &mut W) -> Result<(), SinkError> {
+        match self {
+            CowSlice::Borrowed(bytes) => serialize_text(bytes, writer),
+            CowSlice::Owned(bytes) => serialize_text(bytes.as_slice(), writer),
+        }
+    }
+
+    /// The bytes are read as owned.
+    fn deserialize<R: Source>(alloc: Global, reader: &mut R) -> Result<Self, WireError> {
+        match read_blob(alloc, reader) {
+            Ok(bytes) => Ok(CowSlice::Owned(bytes)),
+            Err(e) => Err(e),
+        }
+    }
+
+    fn num_bytes(&self) -> u64 {
+        match self {
+            CowSlice::Borrowed(bytes) => text_num_bytes(bytes),
+            CowSlice::Owned(bytes) => text_num_bytes(bytes.as_slice()),
         }
     }
 }

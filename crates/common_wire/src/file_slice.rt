@@ -3,6 +3,7 @@ ghost use Rattle.std.specs.Prelude.{◌≡◌, ℕ, ◌+◌, ◌-◌, ◌*◌, �
 ghost use Rattle.owned_bytes.specs.Outside.{HasCause, IsPart};
 ghost use Rattle.common_wire.specs.Slices.{span_len, part_of, piece_len, Counts};
 
+use crate::ByteCount;
 use owned_bytes::{FileHandle, HandleError, HasLen, OwnedBytes, WrapFile};
 use std::alloc::Global;
 use std::fs::File;
@@ -82,6 +83,13 @@ impl FileSlice {
         ensures end { result.end ≡ 0 }
     {
         FileSlice::new_with_num_bytes(0)
+    }
+
+    /// How many bytes it has.
+    pub fn num_bytes(&self) -> ByteCount
+        ensures { result ≡ span_len self.now }
+    {
+        ByteCount::from(self.len())
     }
 
     /// The places in the file.

@@ -1,6 +1,7 @@
 //! Values as bytes: serialization, numbers of variable length, slices of files, and writers that count.
 #![tactic(auto)]
 
+mod byte_count;
 mod collections;
 mod counting;
 mod error;
@@ -15,6 +16,7 @@ mod slice_handle;
 mod terminating;
 mod vint;
 
+pub use byte_count::ByteCount;
 pub use collections::MAX_LENGTH;
 pub use counting::CountingWriter;
 pub use error::WireError;
