@@ -1,14 +1,13 @@
 -- The first fault, one pair and one document at a time.
-use Rattle.std.proofs.Common.{◌≡◌, ℕ, ◌+◌, ◌<◌, List, [], ◌∷◌, ◌++◌, length, take, drop, get_or, All, refl, sym, ap, ◌∙◌, Option, Some, None, arith}
+use Rattle.std.proofs.Common.{◌≡◌, ℕ, ◌+◌, ◌<◌, List, [], ◌∷◌, ◌++◌, length, drop, get_or, refl, sym, ap, ◌∙◌, Option, Some, None}
 use Rattle.std.specs.Prelude.{slice_get, option_map}
-use Rattle.std.specs.List.{cons_option, flat_map, enumerate_from}
+use Rattle.std.specs.List.{cons_option}
 use Rattle.std.proofs.lemmas.List.{drop_more}
-use Rattle.std.proofs.lemmas.List.Elements.{All-more}
 use Rattle.term_search.specs.declared.documents.Pair.{Pair}
 use Rattle.term_search.specs.declared.documents.Doc.{Doc}
 use Rattle.term_search.specs.declared.faults.Fault.{Fault}
 use Rattle.term_search.specs.declared.faults.PlacedFault.{PlacedFault}
-use Rattle.term_search.specs.Documents.{IsValidPair, fault_of, faults_from, first_from}
+use Rattle.term_search.specs.Documents.{fault_of, faults_from, first_from}
 
 one_more : {X : Type 0} (xs : List X) (i : ℕ) (x : X) → i < length xs → x ≡ get_or xs i x → drop i xs ≡ x ∷ drop (i + 1) xs
 one_more xs i x within at = drop_more xs i x within ∙ ap (λ y. y ∷ drop (i + 1) xs) (sym at)

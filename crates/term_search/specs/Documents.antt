@@ -1,5 +1,5 @@
 -- Documents, as lists of pairs of a field and a term.
-use Rattle.std.specs.Prelude.{◌≡◌, ℕ, ◌+◌, ◌^◌, ◌<◌, ◌≤◌, ◌&&◌, ◌==◌, not, Bool, List, length, map, filter, All, Option, Some, None, option_map, sum_by, bytes_eq, nat_le, nat_lt, slice_get, if◌then◌else◌}
+use Rattle.std.specs.Prelude.{ℕ, ◌+◌, ◌^◌, ◌<◌, ◌≤◌, ◌&&◌, ◌==◌, not, Bool, List, length, map, filter, All, Option, Some, None, option_map, sum_by, bytes_eq, nat_le, nat_lt, slice_get, if◌then◌else◌}
 use Rattle.std.specs.List.{list_any, list_all, enumerate_from, filter_map, flat_map}
 use Rattle.term_search.specs.declared.documents.Pair.{Pair}
 use Rattle.term_search.specs.declared.documents.Doc.{Doc}

@@ -1,7 +1,6 @@
 -- The first fault of the pairs that are left is that of all, and the pairs so far have none.
 use Rattle.std.proofs.Common.{◌≡◌, drop, take, All}
 use Rattle.std.specs.Prelude.{slice_get}
-use Rattle.std.specs.List.{enumerate_from}
 use Rattle.term_search.specs.Documents.{IsValidPair, faults_from}
 use Rattle.term_search.proofs.faults.fault_in.Given as goal
 

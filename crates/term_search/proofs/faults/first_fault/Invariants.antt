@@ -1,6 +1,5 @@
 -- The first fault of the documents that are left is that of all, and the documents so far have none.
 use Rattle.std.proofs.Common.{◌≡◌, drop, take, All}
-use Rattle.std.specs.List.{enumerate_from}
 use Rattle.term_search.specs.Documents.{IsValidPair, first_fault, first_from}
 use Rattle.term_search.proofs.faults.first_fault.Given as goal
 
