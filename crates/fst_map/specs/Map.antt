@@ -1,8 +1,8 @@
 -- A map from keys to numbers: how many, an end and a value for each key, and the keys one after the other.
-use Rattle.std.specs.Prelude.{ℕ, ◌-◌, List, [], ◌∷◌, map, Option, Some, None, nat_le}
+use Rattle.std.specs.Prelude.{ℕ, ◌-◌, List, [], ◌∷◌, length, map, Bool, true, Option, Some, None, nat_le, ◌==◌}
 use Rattle.std.specs.Int.{w64}
 use Rattle.owned_bytes.specs.Front.{Reading, ◌>>=◌, provided, number_at, bytes_at, counted}
-use Rattle.owned_bytes.specs.Keys.{Key, is_rising}
+use Rattle.owned_bytes.specs.Keys.{Key, is_below, is_rising}
 use Rattle.owned_bytes.specs.Computes as bytes
 
 -- where a key ends in the key area, and its value
@@ -31,7 +31,25 @@ map_of bytes = do
   _ ← provided (is_rising (map (λ entry. entry.0) entries))
   Some entries
 
+-- the entries of keys that stand one after the other, by the ends and values that stand one after the other
+unfoldable pub entries_in : ℕ → List ℕ → List ℕ → Option (List (Key × ℕ))
+entries_in count ends area = do
+  found ← counted count end_and_value_at ends
+  _ ← provided (length found.1 == 0)
+  keys_from 0 found.0 area
+
+-- the key of the last entry
+abbrev pub last_key : List (Key × ℕ) → Option Key
+last_key [] = None
+last_key (entry ∷ []) = Some entry.0
+last_key (entry ∷ next ∷ entries) = last_key (next ∷ entries)
+
+-- the key comes after the one before, where there is one
+abbrev pub may_follow : Option Key → Key → Bool
+may_follow None key = true
+may_follow (Some before) key = is_below before key
+
 -- A line 'unfolding computes' lets the definitions of this crate compute.
 unfoldable pub computes : Unit {0}
-unfolding bytes.computes keys_from map_of
+unfolding bytes.computes keys_from map_of entries_in
 computes = tt

@@ -2,5 +2,7 @@
 #![tactic(auto)]
 
 mod automaton;
+mod map;
 
 pub use automaton::{AlwaysMatch, Automaton, Exact, StartsWith, Union};
+pub use map::{MapBuilder, MapError};

@@ -35,6 +35,13 @@ impl<'a> SliceSource<'a> {
             taken: 0,
         }
     }
+
+    /// The bytes that are left.
+    pub fn rest(&self) -> &'a [u8]
+        ensures { result.now ≡ self.now.left }
+    {
+        self.rest
+    }
 }
 
 impl<'a> Source for SliceSource<'a> {

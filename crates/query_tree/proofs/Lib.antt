@@ -4,3 +4,5 @@ pub mod Levels
 pub mod ReadAgain
 pub mod Computes
 pub mod Equality
+pub mod Digits
+pub mod Grouping

@@ -23,9 +23,13 @@ default_mark before (Some Or) = Some Should
 default_mark (Some Or) None = Some Should
 default_mark before None = None
 
+-- a clause of one tree that must not hold
+abbrev pub negated : UserInputAst → UserInputAst
+negated tree = Clause ((Some MustNot, tree) ∷ [])
+
 -- The pair of an item that begins a group. MustNot under Should is a clause of its own.
 unfoldable pub first_pair : Option Occur → Option Occur → UserInputAst → Pair
-first_pair (Some MustNot) (Some Should) tree = (Some Should, Clause ((Some MustNot, tree) ∷ []))
+first_pair (Some MustNot) (Some Should) tree = (Some Should, negated tree)
 first_pair mark default tree = (mark_or mark default, tree)
 
 abbrev pub operand_after : List Item → Option Operand
@@ -62,7 +66,7 @@ tree_of_groups groups = Clause (map pair_of_group groups)
 
 -- a lone item
 unfoldable pub lone : Option Occur → UserInputAst → UserInputAst
-lone (Some MustNot) tree = Clause ((Some MustNot, tree) ∷ [])
+lone (Some MustNot) tree = negated tree
 lone _ tree = tree
 
 unfoldable pub aggregated : Item → List Item → UserInputAst

@@ -19,7 +19,7 @@ use Rattle.query_tree.specs.declared.item.Operand.TheVariants.{And, Or}
 use Rattle.query_tree.specs.declared.item.Item.{Item}
 use Rattle.query_tree.specs.Characters.{minus, plus, dot, star, slash, colon, caret, tilde, backslash, single_quote, double_quote, backquote, opening, closing, open_square, close_square, open_brace, close_brace, is_any, is_other_than, is_space, is_special, is_after_star, is_after_regex, is_field_character, is_word_character, is_bound_character, is_unescaped_in_word}
 use Rattle.query_tree.specs.Reader.{Found, Deep, skip, Reader, ◌>>=◌, ◌>>◌, ◌<$>◌, ◌or◌, pure, fail, optional, one, taken, char, tag, end, before, repeated, joined, listed_after}
-use Rattle.query_tree.specs.Aggregation.{aggregated}
+use Rattle.query_tree.specs.Aggregation.{negated, aggregated}
 use Rattle.query_tree.specs.Rewriting.{with_field, under_field}
 
 -- ---- spaces
@@ -293,13 +293,16 @@ abbrev pub at_least_zero : List ℕ → List ℕ
 at_least_zero [] = 48 ∷ []
 at_least_zero (d ∷ ds) = d ∷ ds
 
+abbrev pub trimmed_back : List ℕ → List ℕ
+trimmed_back digits = reverse (trimmed_front (reverse digits))
+
+abbrev pub trimmed_fraction : Option (List ℕ) → List ℕ
+trimmed_fraction None = []
+trimmed_fraction (Some digits) = trimmed_back digits
+
 -- without zeros in front of the whole part and behind the fraction
 unfoldable pub trimmed_decimal : List ℕ → Option (List ℕ) → Decimal
-trimmed_decimal whole after_dot = record { whole = at_least_zero (trimmed_front whole); fraction = behind after_dot }
-  where
-    behind : Option (List ℕ) → List ℕ
-    behind None = []
-    behind (Some ds) = reverse (trimmed_front (reverse ds))
+trimmed_decimal whole after_dot = record { whole = at_least_zero (trimmed_front whole); fraction = trimmed_fraction after_dot }
 
 unfoldable pub boost : Reader Decimal
 boost = do
@@ -321,9 +324,6 @@ mark = (char minus >> pure occur.MustNot) or (char plus >> pure occur.Must)
 
 unfoldable pub operand : Reader Operand
 operand = (tag (codes "AND ") >> pure And) or (tag (codes "OR ") >> pure Or)
-
-abbrev pub negated : UserInputAst → UserInputAst
-negated tree = Clause ((Some occur.MustNot, tree) ∷ [])
 
 -- ---- leaves. What a leaf encloses, a tree or another leaf, is read one level further in.
 

@@ -7,3 +7,5 @@ pub mod Answer
 pub mod Printing
 pub mod Texts
 pub mod Json
+pub mod Groups
+pub mod Building

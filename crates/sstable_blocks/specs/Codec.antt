@@ -84,7 +84,7 @@ addresses_at (suc n) start ordinal = do
 unfoldable pub addresses : ℕ → List Address → List ℕ
 addresses ordinal [] = []
 addresses ordinal (address ∷ others) =
-  vint (address.end - address.start) ++ vint (address.first_ordinal - ordinal) ++ addresses address.first_ordinal others
+    vint (address.end - address.start) ++ vint (address.first_ordinal - ordinal) ++ addresses address.first_ordinal others
 
 -- where the first address starts
 abbrev pub first_start : List Address → ℕ
@@ -105,21 +105,24 @@ unfoldable pub void : Codec (Unit {0})
 void = record {
   values_of = give (Everywhere tt);
   spelled = λ values. [];
-  goes_on = false }
+  goes_on = false;
+}
 
 -- numbers that don't fall
 unfoldable pub monotonic_u64 : Codec ℕ
 monotonic_u64 = record {
   values_of = rising_numbers_at >>= (λ numbers. give (Listed numbers));
   spelled = λ values. rising_numbers (listed values);
-  goes_on = false }
+  goes_on = false;
+}
 
 -- ranges, each of which starts where the one before ends
 unfoldable pub range : Codec (Range ℕ)
 range = record {
   values_of = rising_numbers_at >>= (λ bounds. give (Listed (spans_between bounds)));
   spelled = λ values. rising_numbers (bounds_of (listed values));
-  goes_on = false }
+  goes_on = false;
+}
 
 -- lists of numbers of 32 bits
 unfoldable pub vec_u32 : Codec (List ℕ)
@@ -129,7 +132,8 @@ vec_u32 = record {
     lists ← counted count list_at
     give (Listed lists);
   spelled = λ values. to_le_bytes w32 (length (listed values)) ++ flat_map list (listed values);
-  goes_on = false }
+  goes_on = false;
+}
 
 -- addresses of blocks, each of which starts where the one before ends
 unfoldable pub index : Codec Address
@@ -140,4 +144,5 @@ index = record {
     found ← addresses_at count start 0
     give (Listed found);
   spelled = λ values. vint (length (listed values)) ++ vint (first_start (listed values)) ++ addresses 0 (listed values);
-  goes_on = true }
+  goes_on = true;
+}

@@ -1,5 +1,5 @@
 -- Numbers in groups of seven bits, the lowest group first. Each byte but the last has bit 128 set.
-use Rattle.std.specs.Prelude.{◌≡◌, ℕ, zero, suc, ◌+◌, ◌-◌, ◌*◌, ◌/◌, ◌%◌, ◌^◌, ◌<◌, ◌≤◌, List, [], ◌∷◌, length, Bool, true, false, Option, Some, None, nat_lt, if◌then◌else◌}
+use Rattle.std.specs.Prelude.{◌≡◌, ℕ, zero, suc, ◌+◌, ◌-◌, ◌*◌, ◌/◌, ◌%◌, ◌^◌, ◌<◌, ◌≤◌, List, [], ◌∷◌, Some, None, nat_lt, if◌then◌else◌}
 use Rattle.owned_bytes.specs.Front.{Reading}
 use Rattle.owned_bytes.specs.Reader.{◌>>=◌, give, only_if}
 

@@ -66,3 +66,25 @@ impl<T: Drop> From<AllocFailed<T>> for ValueError {
         ValueError::Memory
     }
 }
+
+/// Why a block isn't written out.
+#[derive(Clone, Copy, Debug, PartialEq, Eq, Error)]
+pub enum DeltaError {
+    #[error("out of memory")]
+    Memory,
+    #[error("the sink failed")]
+    Write,
+    #[error("the block has more than 4,294,967,294 bytes")]
+    BlockTooLong,
+}
+
+impl From<AllocError> for DeltaError {
+    ghost use Rattle.std.specs.Prelude.{◌≡◌};
+    ghost use Rattle.sstable_blocks.specs.declared.errors.DeltaError.TheVariants.{Memory};
+
+    ghost from_gives = { λ _ e. e ≡ Memory };
+
+    fn from(_error: AllocError) -> Self {
+        DeltaError::Memory
+    }
+}

@@ -5,11 +5,20 @@
 //! that it adds: in one byte `keep + 16 * add` where both are below 16, else as byte 1 and two `vint`s; then the bytes.
 #![tactic(auto)]
 
+mod block_reader;
+mod delta_reader;
+mod delta_writer;
 mod errors;
 mod range;
 mod value;
 pub mod vint;
 
-pub use errors::{BlockError, ValueError};
+pub use block_reader::BlockReader;
+pub use delta_reader::DeltaReader;
+pub use delta_writer::DeltaWriter;
+pub use errors::{BlockError, DeltaError, ValueError};
 pub use range::{RangeValueReader, RangeValueWriter};
 pub use value::{StoredValue, ValueReader, ValueWriter};
+
+#[cfg(test)]
+mod tests;

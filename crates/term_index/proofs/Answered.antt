@@ -2,15 +2,16 @@
 use Rattle.std.proofs.Common.{◌≡◌, ◌≢◌, ◌<◌, ◌≤◌, ◌⊎◌, inl, inr, ℕ, List, length, Option, Some, None, IfSome, Global, sym, ap, ◌∙◌, subst, refl, arith}
 use Rattle.std.specs.Io.KnownBytes.{Appends, Keeps}
 use Rattle.owned_bytes.specs.Outside.{AppendsPrefix}
-use Rattle.term_search.specs.declared.documents.Doc.{Doc}
-use Rattle.term_search.specs.declared.documents.Pair.{Pair}
-use Rattle.term_search.specs.declared.expr.Expr.{Expr}
-use Rattle.term_search.specs.Printed.{IsPrinted, conjuncts, Spells}
+use Rattle.term_documents.specs.declared.documents.Doc.{Doc}
+use Rattle.term_documents.specs.declared.documents.Pair.{Pair}
+use Rattle.term_documents.specs.declared.expr.Expr.{Expr}
+use Rattle.term_documents.specs.Documents.{numbers_where, holds_all, documents_size}
+use Rattle.term_search.specs.Printed.{IsPrinted, IsConjunction, printed, conjuncts, Spells}
 use Rattle.term_search.proofs.Conjunctions.{Spells-printed, spells_once, spelled_is_printed, numbers-conjuncts}
 use Rattle.term_index.specs.declared.outcome.Outcome.{Outcome}
-use Rattle.term_index.specs.declared.outcome.Outcome.TheVariants.{Done, NotYet, InputTooLong, BadInput, ArenaFull, InFault, OutFault, Memory}
+use Rattle.term_index.specs.declared.outcome.Outcome.TheVariants.{Done, Usage, NotYet, InputTooLong, BadInput, TooManyDocuments, BadField, KeyTooLong, ArenaFull, Query, TooDeep, UnsupportedSlop, UnsupportedRegex, Version, Corrupt, Compressed, InFault, StoreFault, ReadFault, OutFault, Memory}
 use Rattle.term_index.specs.Lines.{lines}
-use Rattle.term_index.specs.Asking.{AreDocuments, IsSearchable, HaveNoDocuments, AreTooLarge, numbers, answer, input_limit, check_of, IsOfQuestion, Says}
+use Rattle.term_index.specs.Asking.{AreDocuments, IsSearchable, HaveNoDocuments, AreTooLarge, numbers, answer, input_limit, size_limit, check_of, IsOfQuestion, Says}
 
 weaker : {X : Type 0} (o : Option X) (P Q : X → Type 0) → ((x : X) → P x → Q x) → IfSome o P → IfSome o Q
 weaker None P Q step h = tt

@@ -2,10 +2,10 @@
 use Rattle.std.specs.Prelude.{◌≡◌, ◌≤◌, ◌<◌, ◌+◌, ◌-◌, ◌^◌, ◌⊎◌, ℕ, min, List, length, Option, Some, IfSome}
 use Rattle.std.specs.Io.KnownBytes.{Appends, Keeps}
 use Rattle.owned_bytes.specs.Outside.{AppendsPrefix}
-use Rattle.term_search.specs.declared.documents.Doc.{Doc}
-use Rattle.term_search.specs.declared.documents.Pair.{Pair}
-use Rattle.term_search.specs.declared.expr.Expr.{Expr}
-use Rattle.term_search.specs.Documents.{numbers_where, holds_all, AreValidDocuments, documents_size}
+use Rattle.term_documents.specs.declared.documents.Doc.{Doc}
+use Rattle.term_documents.specs.declared.documents.Pair.{Pair}
+use Rattle.term_documents.specs.declared.expr.Expr.{Expr}
+use Rattle.term_documents.specs.Documents.{numbers_where, holds_all, AreValidDocuments, documents_size}
 use Rattle.term_search.specs.Expressions.{means}
 use Rattle.term_search.specs.Printed.{IsPrinted, Spells}
 use Rattle.term_index.specs.declared.outcome.Outcome.{Outcome}

@@ -2,11 +2,11 @@
 ghost use Rattle.std.specs.Prelude.{◌≡◌, ◌≢◌, ◌↔◌, ◌⊎◌, ◌<◌, ◌≤◌, length, IfSome, None, List};
 ghost use Rattle.std.specs.Io.KnownBytes.{IsAtEnd, Appends, Keeps};
 ghost use Rattle.owned_bytes.specs.Outside.{HasCause, AppendsPrefix};
-ghost use Rattle.term_search.specs.declared.documents.Doc.{Doc};
-ghost use Rattle.term_search.specs.declared.expr.Expr.{Expr};
+ghost use Rattle.term_documents.specs.declared.documents.Doc.{Doc};
+ghost use Rattle.term_documents.specs.declared.expr.Expr.{Expr};
 ghost use Rattle.term_index.specs.Commands.{command_of};
 ghost use Rattle.term_index.specs.Asking.{Asks, AreDocuments, IsSearchable, answer, input_limit, size_limit, check_of, IsOfQuestion, TakenPast};
-ghost use Rattle.term_search.specs.Documents.{documents_size};
+ghost use Rattle.term_documents.specs.Documents.{documents_size};
 
 use crate::question::ask;
 use crate::{Outcome, Word};

@@ -1,7 +1,7 @@
 // Queries of terms joined by AND.
 ghost use Rattle.std.specs.Prelude.{◌≡◌, ◌≢◌, ◌<◌, ◌≤◌, [], ◌∷◌, ◌++◌, ◌↔◌, ◌⊎◌, All, IsTrue, MatchOption, IfOk, OnOk, IfSome, None, ℕ, List, codes};
 ghost use Rattle.term_search.specs.Printed.{Spells, IsFieldByte, IsSimple, leaf_text};
-ghost use Rattle.term_search.specs.declared.documents.Pair.{Pair};
+ghost use Rattle.term_documents.specs.declared.documents.Pair.{Pair};
 
 use owned_bytes::Text;
 use std::alloc::{AllocError, Global};

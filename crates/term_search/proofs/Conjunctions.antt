@@ -4,12 +4,12 @@ use denote.RawPtr.{null_ptr}
 use Rattle.std.specs.Prelude.{All, codes, ◌&&◌}
 use Rattle.std.specs.List.{list_all}
 use Rattle.std.proofs.lemmas.List.Elements.{All-append}
-use Rattle.term_search.specs.Documents.{holds, holds_all, numbers_where}
+use Rattle.term_documents.specs.Documents.{holds, holds_all, numbers_where}
 use Rattle.term_search.specs.Expressions.{means}
 use Rattle.term_search.specs.Printed.{IsSimple, leaf_text, printed, IsConjunction, IsPrinted, conjuncts, conjunction_text, Spells, IsFieldByte}
-use Rattle.term_search.specs.declared.documents.Pair.{Pair}
-use Rattle.term_search.specs.declared.documents.Doc.{Doc}
-use Rattle.term_search.specs.declared.expr.Expr.{Expr, Term, Prefix, Range, Set, Exists, Not', And', Or'}
+use Rattle.term_documents.specs.declared.documents.Pair.{Pair}
+use Rattle.term_documents.specs.declared.documents.Doc.{Doc}
+use Rattle.term_documents.specs.declared.expr.Expr.{Expr, Term, Prefix, Range, Set, Exists, Not', And', Or'}
 
 all_append : (test : Pair → Bool) (xs ys : List Pair) → list_all test (xs ++ ys) ≡ (list_all test xs && list_all test ys)
 all_append test [] ys = refl

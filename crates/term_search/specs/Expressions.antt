@@ -1,17 +1,13 @@
 -- What an expression means.
-use Rattle.std.specs.Prelude.{ℕ, ◌&&◌, ◌||◌, Bool, true, not, List, nat_eq, bytes_eq}
+use Rattle.std.specs.Prelude.{ℕ, ◌&&◌, ◌||◌, Bool, true, not, List, nat_eq}
 use Rattle.std.specs.List.{list_any, starts_with}
 use Rattle.std.specs.Ordering.{nat_cmp, is_lt, is_le}
 use Rattle.std.specs.Cmp.Lexicographic.{slice_cmp}
-use Rattle.term_search.specs.Documents.{holds}
-use Rattle.term_search.specs.declared.documents.Doc.{Doc}
-use Rattle.term_search.specs.declared.expr.Bound.{Bound}
-use Rattle.term_search.specs.declared.expr.Bound.TheVariants.{Inclusive, Exclusive, Unbounded}
-use Rattle.term_search.specs.declared.expr.Expr.{Expr, Term, Prefix, Range, Set, Exists, Not', And', Or'}
-
--- the document holds a term of this field that passes the test
-abbrev pub holds_where : Doc → List ℕ → (List ℕ → Bool) → Bool
-holds_where doc field test = list_any (λ pair. bytes_eq pair.field field && test pair.term) doc.pairs
+use Rattle.term_documents.specs.Documents.{holds, holds_where}
+use Rattle.term_documents.specs.declared.documents.Doc.{Doc}
+use Rattle.term_documents.specs.declared.expr.Bound.{Bound}
+use Rattle.term_documents.specs.declared.expr.Bound.TheVariants.{Inclusive, Exclusive, Unbounded}
+use Rattle.term_documents.specs.declared.expr.Expr.{Expr, Term, Prefix, Range, Set, Exists, Not', And', Or'}
 
 -- the term is within the bound. Terms stand in the order of their bytes, a proper prefix first
 abbrev pub is_above : Bound → List ℕ → Bool

@@ -1,4 +1,2 @@
-pub mod Documents
 pub mod Expressions
-pub mod Postings
 pub mod Printed

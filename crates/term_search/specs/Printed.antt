@@ -1,7 +1,7 @@
 -- The printed text of an expression that is built of terms and conjunctions.
 use Rattle.std.specs.Prelude.{◌≡◌, ◌≢◌, ◌⊎◌, ℕ, ◌≤◌, ◌<◌, List, [], ◌∷◌, ◌++◌, length, All, codes}
-use Rattle.term_search.specs.declared.documents.Pair.{Pair}
-use Rattle.term_search.specs.declared.expr.Expr.{Expr, Term, And'}
+use Rattle.term_documents.specs.declared.documents.Pair.{Pair}
+use Rattle.term_documents.specs.declared.expr.Expr.{Expr, Term, Prefix, Range, Set, Exists, Not', And', Or'}
 
 -- an ASCII letter, a digit or `_`
 abbrev pub IsFieldByte : ℕ → Type 0

@@ -1,6 +1,6 @@
 // The documents that hold every pair of a list.
 ghost use Rattle.std.specs.Prelude.{◌≡◌, ◌≤◌, ℕ, IfOk, Bool};
-ghost use Rattle.term_search.specs.Documents.{holds, holds_all, numbers_where, AreValidDocuments, documents_size};
+ghost use Rattle.term_documents.specs.Documents.{holds, holds_all, numbers_where, AreValidDocuments, documents_size};
 
 use crate::{Doc, Pair};
 use owned_bytes::Ids;

@@ -7,7 +7,7 @@ overflow_sub-number c = (Writing-more _ _ _ _ _ c.loop-number.invariant.0 c.loop
 
 pub loop-number-preserved : goal.loop-number-preserved
 loop-number-preserved c =
-  rw c.in_ok-serialize_into_vec-2.ensures.ok
+    rw c.in_ok-serialize_into_vec-2.ensures.ok
     ((Writing-more _ _ _ _ _ c.loop-number.invariant.0 c.loop-number-test.true).1, starts-more _ _ _ c.loop-number.invariant.1)
 
 pub returns-clause-ok : goal.returns-clause-ok

@@ -3,8 +3,8 @@ use Rattle.std.proofs.Common.{◌≡◌, ◌<◌, ◌≤◌, ◌⊎◌, inl, inr
 use Rattle.std.specs.Prelude.{bytes_eq, if◌then◌else◌}
 use Rattle.std.specs.Io.KnownBytes.{Keeps}
 use Rattle.owned_bytes.specs.Outside.{AppendsPrefix}
-use Rattle.term_search.specs.declared.documents.Doc.{Doc}
-use Rattle.term_search.specs.declared.expr.Expr.{Expr}
+use Rattle.term_documents.specs.declared.documents.Doc.{Doc}
+use Rattle.term_documents.specs.declared.expr.Expr.{Expr}
 use Rattle.term_search.specs.Printed.{IsPrinted}
 use Rattle.term_index.specs.declared.outcome.Outcome.{Outcome}
 use Rattle.term_index.specs.Commands.{Command, command_of, ask}

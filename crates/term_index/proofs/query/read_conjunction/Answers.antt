@@ -1,7 +1,7 @@
 -- Each leaf that is read is the first of what the rest spells.
 use Rattle.std.proofs.Common.{◌≡◌, ◌++◌, ◌∷◌, [], ◌∙◌, ap, sym, subst, refl, List, ℕ, length, ◌⊎◌, inl, inr, rules, arith, append_assoc}
 use Rattle.std.specs.Prelude.{codes}
-use Rattle.term_search.specs.declared.documents.Pair.{Pair}
+use Rattle.term_documents.specs.declared.documents.Pair.{Pair}
 use Rattle.term_search.specs.Printed.{Spells}
 use Rattle.term_search.proofs.Conjunctions.{no_leaf-no_pairs, leaf-Spells-more, Spells-leaf}
 use Rattle.term_index.proofs.query.read_conjunction.Goals as goal

@@ -2,7 +2,7 @@
 use Rattle.std.proofs.Common.{◌≡◌, ◌++◌, List, length}
 use denote.Shadow.{shadow}
 use denote.Text.{Utf8}
-use Rattle.term_search.specs.declared.documents.Pair.{Pair}
+use Rattle.term_documents.specs.declared.documents.Pair.{Pair}
 use Rattle.term_search.specs.Printed.{Spells}
 use Rattle.term_index.proofs.query.read_conjunction.Given as goal
 

@@ -1,0 +1,11 @@
+//! Sets of small numbers, as words of bits.
+#![tactic(auto)]
+
+mod bitset;
+mod read_only;
+mod tinyset;
+mod words;
+
+pub use bitset::BitSet;
+pub use read_only::{Misfit, ReadOnlyBitSet, intersect_bitsets};
+pub use tinyset::{TinySet, TinySetIterator};

@@ -1,0 +1,4 @@
+pub mod FromSources
+pub mod VintLaws
+pub mod NumbersRead
+pub mod PairsRead

@@ -1,0 +1,14 @@
+pub mod Pages
+pub mod Arena
+pub mod Chains
+pub mod Lists
+pub mod Room
+pub mod Appending
+pub mod Reading
+pub mod ListFacts
+pub mod Halves
+pub mod Tables
+pub mod Hashes
+pub mod Entries
+pub mod Inserting
+pub mod Maps

@@ -1,0 +1,92 @@
+-- Hash maps in an arena: a table of places, each free or taken by an entry, and the entries in the arena.
+use Rattle.std.specs.Prelude.{◌≡◌, ◌≢◌, ℕ, ◌+◌, ◌-◌, ◌*◌, ◌<◌, ◌≤◌, ◌==◌, ◌⊎◌, ⊤, Bool, not, nat_lt, List, [], ◌∷◌, ◌++◌, length, map, filter, count_by, slice_index_or, slice_set, bit_and, Option, Some, None, MatchOption, if◌then◌else◌}
+use Rattle.std.specs.Int.{w16, from_le_bytes}
+use Rattle.tantivy_stacker.specs.Arena.{Arena, Lies, bytes_at, top, spent, IsFull, Keeps}
+use Rattle.tantivy_stacker.specs.Hashing.{hash_of}
+
+-- A table: the address of an entry and its hash at each place, or the null address, and how many places are taken.
+pub record Table : Type 0 where
+  pub places : List (ℕ × ℕ)
+  pub count : ℕ
+
+-- place i of a table
+abbrev pub place : List (ℕ × ℕ) → ℕ → ℕ × ℕ
+place ps i = slice_index_or ps i (4294967295, 0)
+
+abbrev pub is_taken : ℕ × ℕ → Bool
+is_taken p = not (p.0 == 4294967295)
+
+abbrev pub IsTaken : List (ℕ × ℕ) → ℕ → Type 0
+IsTaken ps i = (place ps i).0 ≢ 4294967295
+
+-- where the search for a hash begins, among n places
+unfoldable pub home : ℕ → ℕ → ℕ
+home n hash = bit_and hash (n - 1)
+
+-- the place d further than place s, where the first place follows on the last
+unfoldable pub turn : ℕ → ℕ → ℕ → ℕ
+turn n s d = if nat_lt (s + d) n then s + d else s + d - n
+
+-- A search for a hash meets place i after so many taken ones.
+pub record Leads (ps : List (ℕ × ℕ)) (hash i : ℕ) : Type 0 where
+  pub steps : ℕ
+  pub near : steps < length ps
+  pub there : turn (length ps) (home (length ps) hash) steps ≡ i
+  pub before : (d : ℕ) → d < steps → IsTaken ps (turn (length ps) (home (length ps) hash) d)
+
+-- A search for an entry's hash meets the entry.
+pub record IsFiled (ps : List (ℕ × ℕ)) (p : ℕ × ℕ) : Type 0 where
+  pub at : ℕ
+  pub leads : Leads ps p.1 at
+  pub is : place ps at ≡ p
+
+-- ---- an entry at address e: the length of its key, the key, and a value of `size` bytes
+unfoldable pub key_length : Arena → ℕ → ℕ
+key_length a e = from_le_bytes w16 (bytes_at a e 2)
+
+unfoldable pub key_at : Arena → ℕ → List ℕ
+key_at a e = bytes_at a (e + 2) (key_length a e)
+
+abbrev pub value_place : Arena → ℕ → ℕ
+value_place a e = e + (2 + key_length a e)
+
+abbrev pub entry_size : ℕ → Arena → ℕ → ℕ
+entry_size size a e = 2 + key_length a e + size
+
+-- The arena holds the entries of a table, as a call on the map left them.
+pub record IsHeldMap (size : ℕ) (a : Arena) (t : Table) : Type 0 where
+  pub some : 2 ≤ length t.places
+  pub room : t.count < length t.places
+  pub counted : count_by is_taken t.places ≡ t.count
+  pub lies : (i : ℕ) → IsTaken t.places i → Lies a (place t.places i).0 (entry_size size a (place t.places i).0)
+  pub hashed : (i : ℕ) → IsTaken t.places i → (place t.places i).1 ≡ hash_of (key_at a (place t.places i).0)
+  pub filed : (i : ℕ) → IsTaken t.places i → IsFiled t.places (place t.places i)
+  pub distinct : (i j : ℕ) → IsTaken t.places i → IsTaken t.places j → key_at a (place t.places i).0 ≡ key_at a (place t.places j).0 → i ≡ j
+  pub apart : (i j : ℕ) → IsTaken t.places i → IsTaken t.places j → i ≢ j → ((place t.places i).0 + entry_size size a (place t.places i).0 ≤ (place t.places j).0) ⊎ ((place t.places j).0 + entry_size size a (place t.places j).0 ≤ (place t.places i).0)
+
+-- A map has an entry of this key, with this value.
+pub record HasEntry {V : Type 0} (size : ℕ) (item : List ℕ → V) (a : Arena) (t : Table) (key : List ℕ) (v : V) : Type 0 where
+  pub at : ℕ
+  pub taken : IsTaken t.places at
+  pub key_is : key_at a (place t.places at).0 ≡ key
+  pub value_is : item (bytes_at a (value_place a (place t.places at).0) size) ≡ v
+
+-- what a map has at a key
+abbrev pub Finds : {V : Type 0} → ℕ → (List ℕ → V) → Arena → Table → List ℕ → Option V → Type 0
+Finds size item a t key found = MatchOption found ((i : ℕ) → IsTaken t.places i → key_at a (place t.places i).0 ≢ key) (HasEntry size item a t key)
+
+-- An entry was written at e, and nothing else changed: its key and its value.
+pub record EntryWritten {V : Type 0} (size : ℕ) (item : List ℕ → V) (old new : Arena) (e : ℕ) (key : List ℕ) (v : V) : Type 0 where
+  pub keeps : Keeps old new e (e + (2 + length key + size))
+  pub length_is : key_length new e ≡ length key
+  pub key_is : key_at new e ≡ key
+  pub value_is : item (bytes_at new (value_place new e) size) ≡ v
+  pub end : top new ≡ top old
+  pub spends : spent new ≡ spent old
+  pub full : (m : ℕ) → IsFull old m → IsFull new m
+
+-- After a call a map has this value at a key, and all else as before.
+pub record MapPuts {V : Type 0} (size : ℕ) (item : List ℕ → V) (old new : Arena) (t u : Table) (key : List ℕ) (v : V) : Type 0 where
+  pub entry : HasEntry size item new u key v
+  pub kept : (k : List ℕ) (w : V) → k ≢ key → HasEntry size item old t k w → HasEntry size item new u k w
+  pub only : (k : List ℕ) (w : V) → k ≢ key → HasEntry size item new u k w → HasEntry size item old t k w

@@ -1,0 +1,53 @@
+// Addresses in an arena.
+ghost use Rattle.std.specs.Prelude.{◌≡◌, ℕ, ◌+◌, ◌%◌, ◌^◌, ◌<◌, ◌==◌};
+
+use std::marker::Model;
+
+/// A place in an arena: the number of its page times 2^20, plus the place on the page.
+#[derive(Clone, Copy, Debug)]
+pub struct Addr(u32);
+
+impl Model for Addr {
+    ghost Value = { ℕ };
+
+    ghost view = { λ a. a.0 };
+
+    ghost invariant = { λ a. a.0 < 2 ^ 32 };
+
+    ghost inverse = { λ p. record { 0 = p } };
+}
+
+impl Addr {
+    /// The address that no space has.
+    pub fn null_pointer() -> Addr
+        ensures { result ≡ 4294967295 }
+    {
+        Addr(u32::MAX)
+    }
+
+    /// The address so many bytes further, which wraps around at 2^32.
+    pub fn offset(self, offset: u32) -> Addr
+        ensures { result ≡ (self + offset) % 2 ^ 32 }
+    {
+        Addr(self.0.wrapping_add(offset))
+    }
+
+    pub fn is_null(self) -> bool
+        ensures { result ≡ (self == 4294967295) }
+    {
+        self.0 == u32::MAX
+    }
+
+    /// The address of this number.
+    pub(crate) fn from_number(number: u32) -> Addr
+        ensures { result ≡ number }
+    {
+        Addr(number)
+    }
+
+    pub(crate) fn number(self) -> u32
+        ensures { result ≡ self }
+    {
+        self.0
+    }
+}

@@ -1,0 +1,16 @@
+// Laws of arenas and lists, for the proofs of callers.
+ghost use Rattle.tantivy_stacker.specs.Lists.{EmptyIsHeld, OthersStay, PlacesLie, LiesBeforeTop, RoomIsBounded, RoomGrows};
+
+/// What holds of the lists of an arena. It does nothing.
+pub fn list_laws()
+    ensures empty { EmptyIsHeld }
+    ensures others { OthersStay }
+    ensures places { PlacesLie }
+    ensures top { LiesBeforeTop }
+{}
+
+/// What holds of the room that a list takes. It does nothing.
+pub fn room_laws()
+    ensures bound { RoomIsBounded }
+    ensures grows { RoomGrows }
+{}

@@ -1,0 +1,24 @@
+//! A paged arena, and byte lists and hash maps that live in it.
+#![tactic(auto)]
+
+mod addr;
+mod arena_item;
+mod error;
+mod expull;
+mod fastcmp;
+mod fastcpy;
+mod hash;
+mod laws;
+mod memory_arena;
+mod page;
+mod shared_arena_hashmap;
+mod table;
+
+pub use addr::Addr;
+pub use arena_item::{ArenaItem, SingleItem, load, store};
+pub use error::ArenaError;
+pub use expull::{ExpUnrolledLinkedList, ExpUnrolledLinkedListWriter};
+pub use fastcmp::{fast_nbyte_slice_compare, fast_short_slice_compare};
+pub use fastcpy::fast_short_slice_copy;
+pub use laws::{list_laws, room_laws};
+pub use memory_arena::MemoryArena;

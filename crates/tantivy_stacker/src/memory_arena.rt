@@ -1,0 +1,215 @@
+// The arena: pages of memory whose places are handed out one after the other.
+ghost use Rattle.std.specs.Prelude.{◌≡◌, ℕ, ◌+◌, ◌-◌, ◌*◌, ◌/◌, ◌%◌, ◌<◌, ◌≤◌, ◌==◌, ◌↔◌, List, [], ◌∷◌, ◌++◌, length, drop, IfOk, OnOk, OnErr, IfErr, IsTrue};
+ghost use Rattle.tantivy_stacker.specs.Arena.{page_bytes, page, last_page, Lies, bytes_at, top, spent, IsFull, next_place, with_space, HasNoSpace, put, Keeps, HandsOut, Writes, IsAtLimit};
+
+use crate::page::{PAGE_SIZE, Page};
+use crate::{Addr, ArenaError, ArenaItem, load};
+use std::alloc::{AllocError, Global};
+use std::marker::Model;
+
+/// Pages of 1 MiB, whose bytes are handed out from front to back.
+#[derive(Drop)]
+pub struct MemoryArena {
+    pages: Vec<Page>,
+    limit: usize,
+    alloc: Global,
+}
+
+impl Model for MemoryArena {
+    ghost use Rattle.std.specs.Prelude.{◌≤◌, length};
+    ghost use Rattle.tantivy_stacker.specs.Arena.{Arena};
+
+    ghost Value = { Arena };
+
+    ghost view = { λ a. record { limit = a.limit; pages = a.pages.items } };
+
+    ghost invariant = { λ a. (1 ≤ length a.pages.items) × (length a.pages.items ≤ a.limit) × (a.limit ≤ 4096) };
+}
+
+impl MemoryArena {
+    /// An arena of at most 4,096 pages, which has one.
+    pub fn new(alloc: Global) -> Result<MemoryArena, AllocError>
+        ensures { IfOk result (λ a. a ≡ record { limit = 4096; pages = [] ∷ [] }) }
+    {
+        MemoryArena::with_page_limit(alloc, 4096)
+    }
+
+    /// An arena of at most so many pages, which has one.
+    pub fn with_page_limit(alloc: Global, pages: u32) -> Result<MemoryArena, AllocError>
+        requires some { 1 ≤ pages }
+        requires bound { pages ≤ 4096 }
+        ensures { IfOk result (λ a. a ≡ record { limit = pages; pages = [] ∷ [] }) }
+    {
+        let first = Page::new(alloc, 0)?;
+        let mut list = Vec::new(alloc);
+        list.push(first)?;
+        Ok(MemoryArena {
+            pages: list,
+            limit: pages as usize,
+            alloc,
+        })
+    }
+
+    /// Hands out `len` bytes, which are 0: on the last page where it has room, else at the front of a new page.
+    #[inline]
+    pub fn allocate_space(&mut self, len: usize) -> Result<Addr, ArenaError>
+        requires some { 1 ≤ len }
+        requires bound { len ≤ page_bytes }
+        ensures place { IfOk result (λ addr. addr ≡ next_place self.old len) }
+        ensures space { OnOk result (self.new ≡ with_space self.old len) }
+        ensures laws { IfOk result (λ addr. HandsOut self.old self.new addr len) }
+        ensures pages { length self.old.pages ≤ 4096 }
+        ensures unchanged { OnErr result (self.new ≡ self.old) }
+        ensures full { (result ≡ Err ArenaError.ArenaFull) ↔ HasNoSpace self.old len }
+        ensures at_limit { IfErr result (λ e. e ≡ ArenaError.ArenaFull → (m : ℕ) → len ≤ m → IsAtLimit self.old m) }
+    {
+        self.hand_out(len)
+    }
+
+    #[inline]
+    #[tactic(auto, unfolding(crate::specs::Arena::next_place, crate::specs::Arena::with_space, crate::specs::Arena::top))]
+    fn hand_out(&mut self, len: usize) -> Result<Addr, ArenaError>
+        requires some { 1 ≤ len }
+        requires bound { len ≤ page_bytes }
+        ensures first { 1 ≤ length self.old.pages }
+        ensures pages { length self.old.pages ≤ 4096 }
+        ensures last { length (page self.old (last_page self.old)) ≤ page_bytes }
+        ensures place { IfOk result (λ addr. addr ≡ next_place self.old len) }
+        ensures space { OnOk result (self.new ≡ with_space self.old len) }
+        ensures unchanged { OnErr result (self.new ≡ self.old) }
+        ensures full { (result ≡ Err ArenaError.ArenaFull) ↔ HasNoSpace self.old len }
+        ensures at_limit { IfErr result (λ e. e ≡ ArenaError.ArenaFull → (m : ℕ) → len ≤ m → IsAtLimit self.old m) }
+    {
+        let last = self.pages.len() - 1;
+        let place = self.pages[last].len();
+        if place + len > PAGE_SIZE {
+            return self.add_page(len);
+        }
+        let addr = (last * PAGE_SIZE + place) as u32;
+        if addr == u32::MAX {
+            return Err(ArenaError::ArenaFull);
+        }
+        self.pages[last].grow(len)?;
+        Ok(Addr::from_number(addr))
+    }
+
+    /// The `len` bytes from an address on.
+    #[inline]
+    #[tactic(auto, unfolding(crate::specs::Arena::bytes_at))]
+    pub fn slice(&self, addr: Addr, len: usize) -> &[u8]
+        requires { Lies self.now addr len }
+        ensures bytes { result.now ≡ bytes_at self.now addr len }
+        ensures len { length result.now ≡ len }
+        ensures pages { length self.now.pages ≤ 4096 }
+    {
+        let number = addr.number() as usize;
+        self.pages[number / PAGE_SIZE].slice(number % PAGE_SIZE, len)
+    }
+
+    /// The handed-out bytes of the address's page from the address on.
+    #[inline]
+    pub fn slice_from(&self, addr: Addr) -> &[u8]
+        requires { Lies self.now addr 0 }
+        ensures { result.now ≡ drop (addr % page_bytes) (page self.now (addr / page_bytes)) }
+    {
+        let number = addr.number() as usize;
+        self.pages[number / PAGE_SIZE].slice_from(number % PAGE_SIZE)
+    }
+
+    /// Writes bytes from an address on.
+    #[inline]
+    pub(crate) fn write(&mut self, addr: Addr, new: &[u8])
+        requires { Lies self.old addr (length new.now) }
+        ensures written { Writes self.old self.new addr new.now }
+        ensures pages { length self.old.pages ≤ 4096 }
+    {
+        self.write_bytes(addr, new)
+    }
+
+    /// The item whose bytes stand from an address on.
+    #[inline]
+    pub fn read<Item: ArenaItem>(&self, addr: Addr) -> Item
+        requires { Lies self.now addr Item.SIZE }
+        ensures item { result ≡ Item.item (bytes_at self.now addr Item.SIZE) }
+        ensures pages { length self.now.pages ≤ 4096 }
+    {
+        load(self.slice(addr, Item::SIZE))
+    }
+
+    /// Writes an item's bytes from an address on.
+    #[inline]
+    pub fn write_at<Item: ArenaItem>(&mut self, addr: Addr, val: Item)
+        requires { Lies self.old addr Item.SIZE }
+        ensures written { Writes self.old self.new addr (Item.bytes val) }
+        ensures size { length (Item.bytes val) ≡ Item.SIZE }
+        ensures again { Item.item (Item.bytes val) ≡ val }
+    {
+        self.store_item(addr, val);
+    }
+
+    #[inline]
+    #[tactic(auto, unfolding(crate::specs::Arena::put))]
+    fn store_item<Item: ArenaItem>(&mut self, addr: Addr, val: Item)
+        requires { Lies self.old addr Item.SIZE }
+        ensures written { self.new ≡ put self.old addr (Item.bytes val) }
+        ensures size { length (Item.bytes val) ≡ Item.SIZE }
+        ensures again { Item.item (Item.bytes val) ≡ val }
+    {
+        let number = addr.number() as usize;
+        self.pages[number / PAGE_SIZE].store(number % PAGE_SIZE, val);
+    }
+
+    #[inline]
+    #[tactic(auto, unfolding(crate::specs::Arena::put))]
+    fn write_bytes(&mut self, addr: Addr, new: &[u8])
+        requires { Lies self.old addr (length new.now) }
+        ensures written { self.new ≡ put self.old addr new.now }
+        ensures pages { length self.old.pages ≤ 4096 }
+    {
+        let number = addr.number() as usize;
+        self.pages[number / PAGE_SIZE].write(number % PAGE_SIZE, new);
+    }
+
+    /// 2^20 for each page but the last, and the bytes that were handed out on the last.
+    #[tactic(auto, unfolding(crate::specs::Arena::top))]
+    pub fn len(&self) -> usize
+        ensures { result ≡ top self.now }
+    {
+        let last = self.pages.len() - 1;
+        last * PAGE_SIZE + self.pages[last].len()
+    }
+
+    #[tactic(auto, unfolding(crate::specs::Arena::top))]
+    pub fn is_empty(&self) -> bool
+        ensures { result ≡ (top self.now == 0) }
+    {
+        self.len() == 0
+    }
+
+    /// The bytes of all pages.
+    pub fn mem_usage(&self) -> usize
+        ensures { result ≡ length self.now.pages * page_bytes }
+    {
+        self.pages.len() * PAGE_SIZE
+    }
+
+    /// Hands out the first `len` bytes of a new page.
+    #[tactic(auto, unfolding(crate::specs::Arena::next_place, crate::specs::Arena::with_space, crate::specs::Arena::top))]
+    fn add_page(&mut self, len: usize) -> Result<Addr, ArenaError>
+        requires some { 1 ≤ len }
+        requires bound { len ≤ page_bytes }
+        requires no_room { page_bytes < length (page self.old (last_page self.old)) + len }
+        ensures place { IfOk result (λ addr. addr ≡ next_place self.old len) }
+        ensures space { OnOk result (self.new ≡ with_space self.old len) }
+        ensures unchanged { OnErr result (self.new ≡ self.old) }
+        ensures full { (result ≡ Err ArenaError.ArenaFull) ↔ HasNoSpace self.old len }
+    {
+        let number = self.pages.len();
+        if number == self.limit {
+            return Err(ArenaError::ArenaFull);
+        }
+        let page = Page::new(self.alloc, len)?;
+        self.pages.push(page)?;
+        Ok(Addr::from_number((number * PAGE_SIZE) as u32))
+    }
+}
