@@ -2,3 +2,4 @@ pub mod FromSources
 pub mod VintLaws
 pub mod NumbersRead
 pub mod PairsRead
+pub mod ListsRead

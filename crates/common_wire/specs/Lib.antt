@@ -11,3 +11,4 @@ pub mod PairLaws
 pub mod Slices
 pub mod SliceLaws
 pub mod ListLaws
+pub mod ByteText

@@ -68,12 +68,23 @@ length_taken = do
   n ← vint
   only_if (nat_le n max_length) (give n)
 
+-- so many bytes of UTF-8
+unfoldable pub text_of : ℕ → Taking (List ℕ)
+text_of n = do
+  piece ← bytes_of n
+  only_if (is_utf8 piece) (give piece)
+
 -- a length, and then so many bytes of UTF-8
 unfoldable pub text : Taking (List ℕ)
 text = do
   n ← length_taken
-  piece ← bytes_of n
-  only_if (is_utf8 piece) (give piece)
+  text_of n
+
+-- a length, and then so many bytes
+unfoldable pub blob : Taking (List ℕ)
+blob = do
+  n ← length_taken
+  bytes_of n
 
 unfoldable pub text_bytes : List ℕ → List ℕ
 text_bytes bytes = vint_bytes (length bytes) ++ bytes

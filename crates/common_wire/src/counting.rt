@@ -4,6 +4,7 @@ ghost use Rattle.std.specs.Io.KnownBytes.{Keeps};
 ghost use Rattle.owned_bytes.specs.Outside.{HasCause, WritesAll};
 ghost use Rattle.common_wire.specs.Counting.{inner_sink, bytes_counted};
 
+use crate::{AntiCallToken, TerminatingWrite};
 use owned_bytes::{Sink, SinkError};
 
 /// Passes bytes on to a sink, and counts those of the calls that answered Ok.
@@ -63,5 +64,11 @@ impl<W: Sink> Sink for CountingWriter<W> {
         ensures count { bytes_counted self.new ≡ bytes_counted self.old }
     {
         self.underlying.flush()
+    }
+}
+
+impl<W: TerminatingWrite> TerminatingWrite for CountingWriter<W> {
+    fn terminate_ref(&mut self, token: AntiCallToken) -> Result<(), SinkError> {
+        self.underlying.terminate_ref(token)
     }
 }

@@ -1,6 +1,6 @@
 // Why a value could not be read.
 use owned_bytes::SourceFault;
-use std::alloc::AllocError;
+use std::alloc::{AllocError, AllocFailed};
 use thiserror::Error;
 
 /// Why no value was read. A front of the value's bytes may have been taken.
@@ -39,5 +39,16 @@ impl From<SourceFault> for WireError {
 
     fn from(_e: SourceFault) -> WireError {
         WireError::Failed
+    }
+}
+
+impl<T: Drop> From<AllocFailed<T>> for WireError {
+    ghost use Rattle.std.specs.Prelude.{◌≡◌};
+    ghost use Rattle.common_wire.specs.declared.error.WireError.TheVariants.{Memory};
+
+    ghost from_gives = { λ _ e. e ≡ Memory };
+
+    fn from(_e: AllocFailed<T>) -> WireError {
+        WireError::Memory
     }
 }

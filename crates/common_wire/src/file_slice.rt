@@ -3,10 +3,13 @@ ghost use Rattle.std.specs.Prelude.{◌≡◌, ℕ, ◌+◌, ◌-◌, ◌*◌, �
 ghost use Rattle.owned_bytes.specs.Outside.{HasCause, IsPart};
 ghost use Rattle.common_wire.specs.Slices.{span_len, part_of, piece_len, Counts};
 
-use owned_bytes::{FileHandle, HandleError, HasLen, OwnedBytes};
+use crate::ByteCount;
+use owned_bytes::{FileHandle, HandleError, HasLen, OwnedBytes, WrapFile};
 use std::alloc::Global;
+use std::fs::File;
 use std::marker::Model;
 use std::ops::Range;
+use std::rt::Files;
 
 /// A range of a file. It holds no file: a handle is passed to each call that reads.
 #[derive(Clone, Copy)]
@@ -56,12 +59,37 @@ impl FileSlice {
         }
     }
 
+    /// Opens the file, and gives a handle of it and the whole of it. Failed where it can't be opened or measured.
+    pub fn open<R: Files<File = File>>(
+        files: &R,
+        path: &str,
+    ) -> Result<(WrapFile, FileSlice), HandleError>
+        ensures start { IfOk result (λ opened. opened.1.start ≡ 0) }
+        ensures end { IfOk result (λ opened. opened.1.end ≡ ⟦<WrapFile as HasLen>⟧.size opened.0) }
+    {
+        match File::open(files, path) {
+            Ok(file) => {
+                let handle = WrapFile::new(file)?;
+                let slice = FileSlice::new(&handle);
+                Ok((handle, slice))
+            }
+            Err(_) => Err(HandleError::Failed),
+        }
+    }
+
     /// No bytes.
     pub fn empty() -> FileSlice
         ensures start { result.start ≡ 0 }
         ensures end { result.end ≡ 0 }
     {
         FileSlice::new_with_num_bytes(0)
+    }
+
+    /// How many bytes it has.
+    pub fn num_bytes(&self) -> ByteCount
+        ensures { result ≡ span_len self.now }
+    {
+        ByteCount::from(self.len())
     }
 
     /// The places in the file.

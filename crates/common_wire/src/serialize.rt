@@ -1,11 +1,11 @@
 // Values as bytes.
-ghost use Rattle.std.specs.Prelude.{◌≡◌, ◌-◌, ◌^◌, ◌≤◌, ◌++◌, ℕ, List, length, min, Err};
+ghost use Rattle.std.specs.Prelude.{◌≡◌, ◌-◌, ◌^◌, ◌≤◌, ◌++◌, ℕ, List, length, min, Err, Some};
 ghost use Rattle.owned_bytes.specs.Outside.{HasCause, WritesAll};
 ghost use Rattle.common_wire.specs.Taking.{Taking, Value};
 ghost use Rattle.common_wire.specs.Serialized.{IsTaking, Takes};
 
 use crate::WireError;
-use owned_bytes::{Sink, SinkError, Source};
+use owned_bytes::{Sink, SinkError, SliceSource, Source};
 use std::alloc::Global;
 
 /// A value that is written as bytes and read again.
@@ -62,4 +62,23 @@ pub trait FixedSize: BinarySerializable {
     const SIZE_IN_BYTES: usize;
 
     ghost size: { (v : Self.Shown) → min (length (Self.wire (Self.as_written v))) (2 ^ 64 - 1) ≡ SIZE_IN_BYTES };
+}
+
+/// A value off the front of bytes, which then begin after it.
+pub trait DeserializeFrom<T: BinarySerializable> {
+    ghost front: { Self → List ℕ };
+
+    fn deserialize(&mut self, alloc: Global) -> Result<T, WireError>
+        ensures { Takes T.shown T.taking (Some (front self.old)) (Some (front self.new)) result };
+}
+
+impl<T: BinarySerializable> DeserializeFrom<T> for &[u8] {
+    ghost front = { λ bytes. bytes.now };
+
+    fn deserialize(&mut self, alloc: Global) -> Result<T, WireError> {
+        let mut source = SliceSource::new(*self);
+        let result = T::deserialize(alloc, &mut source);
+        *self = source.rest();
+        result
+    }
 }
