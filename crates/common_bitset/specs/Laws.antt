@@ -6,3 +6,4 @@ pub mod Steps
 pub mod Gathered
 pub mod Laid
 pub mod Stored
+pub mod Iterated

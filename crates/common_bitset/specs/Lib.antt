@@ -4,3 +4,4 @@ pub mod Laws
 pub mod Subset
 pub mod Counts
 pub mod Laid
+pub mod Iterated

@@ -3,10 +3,11 @@ ghost use Rattle.std.specs.Prelude.{◌≡◌, ◌/◌, ◌<◌, ◌≤◌, ◌�
 ghost use Rattle.std.specs.Int.{div_ceil};
 ghost use Rattle.std.specs.FinSet as set;
 ghost use Rattle.common_bitset.specs.Subset.{Subset, IsProper, FitsBitSet, stored_set, stored_word, bytes_of, word_at, word_in};
+ghost use Rattle.common_bitset.specs.Numbers.{rising};
 ghost use Rattle.common_bitset.specs.Counts.{total};
 ghost use Rattle.common_bitset.specs.Laws.Stored.{Stores};
 
-use crate::{BitSet, TinySet, words};
+use crate::{BitSet, BitSetIter, TinySet, words};
 use owned_bytes::OwnedBytes;
 use std::alloc::{AllocError, Global};
 use std::marker::Model;
@@ -86,6 +87,13 @@ impl ReadOnlyBitSet {
         ensures { result ≡ set.contains self.now.elements el }
     {
         words::stored(self.words.as_slice(), el as usize / 64).contains(el % 64)
+    }
+
+    /// The elements, rising.
+    pub fn iter(&self) -> BitSetIter<'_>
+        ensures { result ≡ rising self.now.max_value self.now.elements }
+    {
+        BitSetIter::new(self.words.as_slice())
     }
 
     pub fn clone(&self, alloc: Global) -> Result<ReadOnlyBitSet, AllocError>

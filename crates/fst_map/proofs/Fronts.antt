@@ -29,25 +29,29 @@ pub record IsLocal {A : Type 0} (reading : Reading A) : Type 0 where
   pub longer : (bytes more : List ℕ) (found : A × List ℕ) → reading bytes ≡ Some found → reading (bytes ++ more) ≡ Some (found.0, found.1 ++ more)
 
 pub bytes_at-local : (n : ℕ) → IsLocal (bytes_at n)
-bytes_at-local n = record { longer = λ bytes more found e.
-    let is = bytes_at-found n bytes found e in
-    bytes_at-front n (bytes ++ more) (omega (arith, is.0, length-append bytes more))
-    ∙ ap (λ (p : List ℕ). Some (p, drop n (bytes ++ more))) (take-append-le n bytes more is.0)
-    ∙ ap (λ (r : List ℕ). Some (take n bytes, r)) (drop-append-le n bytes more is.0)
-    ∙ ap (λ (p : List ℕ × List ℕ). Some (p.0, p.1 ++ more)) is.1 }
+bytes_at-local n = record {
+  longer = λ bytes more found e.
+      let is = bytes_at-found n bytes found e in
+      bytes_at-front n (bytes ++ more) (omega (arith, is.0, length-append bytes more))
+      ∙ ap (λ (p : List ℕ). Some (p, drop n (bytes ++ more))) (take-append-le n bytes more is.0)
+      ∙ ap (λ (r : List ℕ). Some (take n bytes, r)) (drop-append-le n bytes more is.0)
+      ∙ ap (λ (p : List ℕ × List ℕ). Some (p.0, p.1 ++ more)) is.1;
+}
 
 pub number_at-local : (w : Width) → IsLocal (number_at w)
-number_at-local w = record { longer = λ bytes more found e.
-    let step = bind_some (bytes_at (byte_len w) bytes) (λ piece. Some (from_le_bytes w piece.0, piece.1)) found e in
-    ap (λ o. o >>= (λ piece. Some (from_le_bytes w piece.0, piece.1))) ((bytes_at-local (byte_len w)).longer bytes more step.0 step.1)
-    ∙ ap (λ (p : ℕ × List ℕ). Some (p.0, p.1 ++ more)) (some_is _ _ step.2) }
+number_at-local w = record {
+  longer = λ bytes more found e.
+      let step = bind_some (bytes_at (byte_len w) bytes) (λ piece. Some (from_le_bytes w piece.0, piece.1)) found e in
+      ap (λ o. o >>= (λ piece. Some (from_le_bytes w piece.0, piece.1))) ((bytes_at-local (byte_len w)).longer bytes more step.0 step.1)
+      ∙ ap (λ (p : ℕ × List ℕ). Some (p.0, p.1 ++ more)) (some_is _ _ step.2);
+}
 
 pub number-again : (n : ℕ) (rest : List ℕ) → n < 2 ^ 64 → number_at w64 (to_le_bytes w64 n ++ rest) ≡ Some (n, rest)
 number-again n rest fits =
     ap (λ o. o >>= (λ piece. Some (from_le_bytes w64 piece.0, piece.1)))
-      (bytes_at-front 8 (to_le_bytes w64 n ++ rest) (omega (arith, length-append (to_le_bytes w64 n) rest))
-       ∙ ap (λ (p : List ℕ). Some (p, drop 8 (to_le_bytes w64 n ++ rest))) (take_at (to_le_bytes w64 n) rest 8 refl)
-       ∙ ap (λ (r : List ℕ). Some (to_le_bytes w64 n, r)) (drop_at (to_le_bytes w64 n) rest 8 refl))
+    (bytes_at-front 8 (to_le_bytes w64 n ++ rest) (omega (arith, length-append (to_le_bytes w64 n) rest))
+    ∙ ap (λ (p : List ℕ). Some (p, drop 8 (to_le_bytes w64 n ++ rest))) (take_at (to_le_bytes w64 n) rest 8 refl)
+    ∙ ap (λ (r : List ℕ). Some (to_le_bytes w64 n, r)) (drop_at (to_le_bytes w64 n) rest 8 refl))
     ∙ ap (λ m. Some (m, rest)) (from_le_bytes-to_le_bytes_8 n fits)
 
 -- so many values, whatever follows

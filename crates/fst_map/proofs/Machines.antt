@@ -57,12 +57,13 @@ exact-from front (x ∷ rest) [] = read-less front rest x
 exact-from front (x ∷ rest) (b ∷ key) =
     let goes : exact_accept (front ++ x ∷ rest) (Some (length front)) b ≡ cond (eqb x b) (Some (length front + 1)) None = cond-true _ _ _ (is_within front rest x) ∙ next_place-at front rest x b in
     let more : is_read (front ++ x ∷ rest) (after (exact (front ++ x ∷ rest)) (Some (length front + 1)) key) ≡ is_same rest key =
-        subst (λ n. is_read (front ++ x ∷ rest) (after (exact (front ++ x ∷ rest)) (Some n) key) ≡ is_same rest key) (length_push front x)
-          (subst (λ (t : List ℕ). is_read t (after (exact t) (Some (length (front ++ x ∷ []))) key) ≡ is_same rest key) (front_more front rest x) (exact-from (front ++ x ∷ []) rest key)) in
+    subst (λ n. is_read (front ++ x ∷ rest) (after (exact (front ++ x ∷ rest)) (Some n) key) ≡ is_same rest key) (length_push front x)
+    (subst (λ (t : List ℕ). is_read t (after (exact t) (Some (length (front ++ x ∷ []))) key) ≡ is_same rest key) (front_more front rest x) (exact-from (front ++ x ∷ []) rest key)) in
     let by : (t : Bool) → eqb x b ≡ t → is_read (front ++ x ∷ rest) (after (exact (front ++ x ∷ rest)) (cond t (Some (length front + 1)) None) key) ≡ is_same (x ∷ rest) (b ∷ key) =
-        λ t. elim t as (λ t. eqb x b ≡ t → is_read (front ++ x ∷ rest) (after (exact (front ++ x ∷ rest)) (cond t (Some (length front + 1)) None) key) ≡ is_same (x ∷ rest) (b ∷ key))
-          [ true ↦ λ e. more ∙ sym (ap (λ o. is_equal (ordering_then o (slice_cmp nat_cmp rest key))) (equal-at x b e))
-          | false ↦ λ e. ap (is_read (front ++ x ∷ rest)) (exact-none (front ++ x ∷ rest) key) ∙ sym (then-unequal (nat_cmp x b) (slice_cmp nat_cmp rest key) (unequal-at x b e)) ] in
+    λ t. elim t as (λ t. eqb x b ≡ t → is_read (front ++ x ∷ rest) (after (exact (front ++ x ∷ rest)) (cond t (Some (length front + 1)) None) key) ≡ is_same (x ∷ rest) (b ∷ key)) [
+      | true ↦ λ e. more ∙ sym (ap (λ o. is_equal (ordering_then o (slice_cmp nat_cmp rest key))) (equal-at x b e))
+      | false ↦ λ e. ap (is_read (front ++ x ∷ rest)) (exact-none (front ++ x ∷ rest) key) ∙ sym (then-unequal (nat_cmp x b) (slice_cmp nat_cmp rest key) (unequal-at x b e))
+    ] in
     ap (λ s. is_read (front ++ x ∷ rest) (after (exact (front ++ x ∷ rest)) s key)) goes ∙ by (eqb x b) refl
 
 pub exact-takes : (one : List ℕ) → Takes (exact one) (only one)
@@ -75,12 +76,13 @@ prefixed-from front (x ∷ rest) [] = read-less front rest x
 prefixed-from front (x ∷ rest) (b ∷ key) =
     let goes : prefix_accept (front ++ x ∷ rest) (Some (length front)) b ≡ cond (eqb x b) (Some (length front + 1)) None = cond-true _ _ _ (is_within front rest x) ∙ next_place-at front rest x b in
     let more : is_read (front ++ x ∷ rest) (after (prefixed (front ++ x ∷ rest)) (Some (length front + 1)) key) ≡ starts_with nat_eq key rest =
-        subst (λ n. is_read (front ++ x ∷ rest) (after (prefixed (front ++ x ∷ rest)) (Some n) key) ≡ starts_with nat_eq key rest) (length_push front x)
-          (subst (λ (t : List ℕ). is_read t (after (prefixed t) (Some (length (front ++ x ∷ []))) key) ≡ starts_with nat_eq key rest) (front_more front rest x) (prefixed-from (front ++ x ∷ []) rest key)) in
+    subst (λ n. is_read (front ++ x ∷ rest) (after (prefixed (front ++ x ∷ rest)) (Some n) key) ≡ starts_with nat_eq key rest) (length_push front x)
+    (subst (λ (t : List ℕ). is_read t (after (prefixed t) (Some (length (front ++ x ∷ []))) key) ≡ starts_with nat_eq key rest) (front_more front rest x) (prefixed-from (front ++ x ∷ []) rest key)) in
     let by : (t : Bool) → eqb x b ≡ t → is_read (front ++ x ∷ rest) (after (prefixed (front ++ x ∷ rest)) (cond t (Some (length front + 1)) None) key) ≡ starts_with nat_eq (b ∷ key) (x ∷ rest) =
-        λ t. elim t as (λ t. eqb x b ≡ t → is_read (front ++ x ∷ rest) (after (prefixed (front ++ x ∷ rest)) (cond t (Some (length front + 1)) None) key) ≡ starts_with nat_eq (b ∷ key) (x ∷ rest))
-          [ true ↦ λ e. more ∙ sym (ap (λ t. t && starts_with nat_eq key rest) e)
-          | false ↦ λ e. ap (is_read (front ++ x ∷ rest)) (prefixed-none (front ++ x ∷ rest) key) ∙ sym (ap (λ t. t && starts_with nat_eq key rest) e) ] in
+    λ t. elim t as (λ t. eqb x b ≡ t → is_read (front ++ x ∷ rest) (after (prefixed (front ++ x ∷ rest)) (cond t (Some (length front + 1)) None) key) ≡ starts_with nat_eq (b ∷ key) (x ∷ rest)) [
+      | true ↦ λ e. more ∙ sym (ap (λ t. t && starts_with nat_eq key rest) e)
+      | false ↦ λ e. ap (is_read (front ++ x ∷ rest)) (prefixed-none (front ++ x ∷ rest) key) ∙ sym (ap (λ t. t && starts_with nat_eq key rest) e)
+    ] in
     ap (λ s. is_read (front ++ x ∷ rest) (after (prefixed (front ++ x ∷ rest)) s key)) goes ∙ by (eqb x b) refl
 
 pub prefixed-takes : (prefix : List ℕ) → Takes (prefixed prefix) (beginning_with prefix)

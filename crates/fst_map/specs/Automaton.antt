@@ -63,7 +63,8 @@ always = record {
   is_match = λ _. true;
   can_match = λ _. true;
   will_always_match = λ _. true;
-  accept = λ _ _. tt }
+  accept = λ _ _. tt;
+}
 
 -- A state of the next two machines is how many bytes of a text were read, or none where another byte came.
 abbrev pub is_read : List ℕ → Option ℕ → Bool
@@ -91,7 +92,8 @@ exact key = record {
   is_match = is_read key;
   can_match = λ state. is_some state;
   will_always_match = λ _. false;
-  accept = exact_accept key }
+  accept = exact_accept key;
+}
 
 -- the machine that takes the keys that begin with the prefix
 abbrev pub prefixed : List ℕ → Machine (Option ℕ)
@@ -100,7 +102,8 @@ prefixed prefix = record {
   is_match = is_read prefix;
   can_match = λ state. is_some state;
   will_always_match = is_read prefix;
-  accept = prefix_accept prefix }
+  accept = prefix_accept prefix;
+}
 
 -- two machines side by side, one of which is to match
 abbrev pub joint : {S T : Type 0} → Machine S → Machine T → Machine (S × T)
@@ -109,4 +112,5 @@ joint one other = record {
   is_match = λ both. one.is_match both.0 || other.is_match both.1;
   can_match = λ both. one.can_match both.0 || other.can_match both.1;
   will_always_match = λ both. one.will_always_match both.0 || other.will_always_match both.1;
-  accept = λ both byte. (one.accept both.0 byte, other.accept both.1 byte) }
+  accept = λ both byte. (one.accept both.0 byte, other.accept both.1 byte);
+}

@@ -44,9 +44,9 @@ pub joint-matches : {S T : Type 0} (one : Machine S) (other : Machine T) (s : S)
 joint-matches one other s t bytes = ap (joint one other).is_match (joint-after one other s t bytes)
 
 pub joint-lawful : {S T : Type 0} (one : Machine S) (other : Machine T) → IsLawful one → IsLawful other → IsLawful (joint one other)
-joint-lawful one other l m both bytes are =
-    (λ e. let parts = or_parts (one.can_match both.0) (other.can_match both.1) e in
-        joint-matches one other both.0 both.1 bytes ∙ or_from _ _ ((l both.0 bytes are).0 parts.0) ((m both.1 bytes are).0 parts.1),
-     λ e. joint-matches one other both.0 both.1 bytes ∙
-        ⊎_elim (λ a. or_left _ _ ((l both.0 bytes are).1 a)) (λ b. or_right _ _ ((m both.1 bytes are).1 b)) (or_cases (one.will_always_match both.0) (other.will_always_match both.1) e))
-
+joint-lawful one other l m both bytes are = (
+  λ e. let parts = or_parts (one.can_match both.0) (other.can_match both.1) e in
+      joint-matches one other both.0 both.1 bytes ∙ or_from _ _ ((l both.0 bytes are).0 parts.0) ((m both.1 bytes are).0 parts.1),
+  λ e. joint-matches one other both.0 both.1 bytes ∙
+      ⊎_elim (λ a. or_left _ _ ((l both.0 bytes are).1 a)) (λ b. or_right _ _ ((m both.1 bytes are).1 b)) (or_cases (one.will_always_match both.0) (other.will_always_match both.1) e),
+)

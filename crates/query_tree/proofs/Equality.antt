@@ -188,7 +188,7 @@ plain_layer (layer.Clause pairs) = clause (plains_of pairs)
 plain_layer (layer.Boost t d) = boost t d
 plain_layer (layer.Leaf l) = plain.leaf l
 
-unfoldable plain_of : UserInputAst → Plain
+unfoldable pub plain_of : UserInputAst → Plain
 plain_of = fold-UserInputAst Plain plain_layer
 
 IsPlain : UserInputAst → Type 0
@@ -210,6 +210,10 @@ layer_plain value is (layer.Leaf l) = ap tree_of (fold-roll-UserInputAst _ _ (la
 
 is_plain : (t : UserInputAst) → IsPlain t
 is_plain = ind-UserInputAst IsPlain (λ x y h. subst (λ z. IsPlain (roll-UserInputAst z)) h (layer_plain (λ e. e.0) (λ e. e.1) y))
+
+pub tree-plain : (t : UserInputAst) → tree_of (plain_of t) ≡ t
+unfolding IsPlain
+tree-plain t = is_plain t
 
 pub same_tree-self : (t : UserInputAst) → same_tree t t ≡ true
 unfolding IsPlain

@@ -42,6 +42,8 @@ clause_under_field field t pairs items done i whole same all each =
     let e : done ≡ map (λ p. (p.0, under_field field p.1)) pairs = each ∙ ap (map (λ p. (p.0, under_field field p.1))) (take_all i items all ∙ same) in
     ap tree.Clause e ∙ sym (ap (under_field field) whole ∙ under_field-Clause field pairs)
 
+pub ruleset trees_rewritten = (rewritten-Leaf, rewritten-Clause, rewritten-Boost)
+
 pub ruleset trees_under_field = (under_field-Leaf, under_field-Clause, under_field-Boost)
 
 -- ---- equality at each variant

@@ -6,3 +6,5 @@ pub mod Computes
 pub mod Equality
 pub mod Digits
 pub mod Grouping
+pub mod Derived
+pub mod Repeats

@@ -1,3 +1,4 @@
+use std::alloc::AllocError;
 use thiserror::Error as ErrorText;
 
 /// A query text that the grammar does not read.
@@ -17,4 +18,15 @@ pub enum ParseError {
     /// More than 128 parentheses, field groups and `NOT` stand inside one another.
     #[error("the query nests too deep")]
     TooDeep,
+}
+
+impl From<AllocError> for ParseError {
+    ghost use Rattle.std.specs.Prelude.{◌≡◌};
+    ghost use Rattle.query_tree.specs.declared.answer.ParseError.TheVariants.{Memory};
+
+    ghost from_gives = { λ _ e. e ≡ Memory };
+
+    fn from(_: AllocError) -> Self {
+        ParseError::Memory
+    }
 }

@@ -29,6 +29,9 @@ module _ (a : Arena) (e m : ℕ) (h : Lies a e (2 + key_length a e + m)) (some :
   pub value_place_is : (q k : ℕ) → length a.pages ≤ 4096 → k ≡ key_length a e → q ≡ (e + (2 + k)) % 2 ^ 32 → q ≡ e + (2 + key_length a e)
   value_place_is q k few len is = (let small = Lies-small a e (2 + key_length a e + m) few h in is ∙ (mod-eq_of_lt (omega arith) ∙ omega arith))
 
+pub place_after : (a : Arena) (e n k q : ℕ) → Lies a e n → length a.pages ≤ 4096 → k < n → q ≡ (e + k) % 2 ^ 32 → q ≡ e + k
+place_after a e n k q h few less is = (let small = Lies-small a e n few h in is ∙ mod-eq_of_lt (omega arith))
+
 -- a map that is held can be searched
 pub searchable : (size : ℕ) (a : Arena) (t : Table) → 1 ≤ size → IsHeldMap size a t → IsSearchable a t.places
 searchable size a t some h =

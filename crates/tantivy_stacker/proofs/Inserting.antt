@@ -55,7 +55,7 @@ entry_written size item a b c d e key head tail v h some first two len_is second
       value_is = ap (λ k. item (bytes_at d (e + (2 + k)) size)) len ∙ (ap item value_d ∙ item_is);
       end = omega arith;
       spends = omega arith;
-      full = λ m f. third.full m (second.full m (first.full m f))
+      full = λ m f. third.full m (second.full m (first.full m f));
     }
 
 -- ---- a table with one place more taken
@@ -72,8 +72,9 @@ module _ (ps : List (ℕ × ℕ)) (i : ℕ) (p : ℕ × ℕ) (within : i < lengt
   -- what was taken stays so
   pub still_taken : (j : ℕ) → IsTaken ps j → IsTaken (set ps i p) j
   still_taken j t = elim (cases_eq j i) [
-      inl e ↦ absurd (t (ap (λ k. (place ps k).0) e ∙ free))
-    | inr ne ↦ (λ e. t (ap (λ (q : ℕ × ℕ). q.0) (sym (put_there j ne)) ∙ e)) ]
+    | inl e ↦ absurd (t (ap (λ k. (place ps k).0) e ∙ free))
+    | inr ne ↦ (λ e. t (ap (λ (q : ℕ × ℕ). q.0) (sym (put_there j ne)) ∙ e))
+  ]
 
   pub put_leads : (hash k : ℕ) → Leads ps hash k → Leads (set ps i p) hash k
   put_leads hash k l =
@@ -82,7 +83,7 @@ module _ (ps : List (ℕ × ℕ)) (i : ℕ) (p : ℕ × ℕ) (within : i < lengt
         steps = l.steps;
         near = omega (arith, put_length);
         there = ap (λ n. turn n (home n hash) l.steps) put_length ∙ l.there;
-        before = λ d h. subst (λ n. IsTaken (set ps i p) (turn n (home n hash) d)) (sym put_length) (still_taken (turn (length ps) (home (length ps) hash) d) (l.before d h))
+        before = λ d h. subst (λ n. IsTaken (set ps i p) (turn n (home n hash) d)) (sym put_length) (still_taken (turn (length ps) (home (length ps) hash) d) (l.before d h));
       }
 
   pub put_filed : (j : ℕ) → IsTaken ps j → IsFiled ps (place ps j) → IsFiled (set ps i p) (place ps j)
@@ -103,5 +104,6 @@ module _ (ps : List (ℕ × ℕ)) (i : ℕ) (p : ℕ × ℕ) (within : i < lengt
   -- a taken place is the new one or was taken before
   pub cases_put : (j : ℕ) → IsTaken (set ps i p) j → (j ≡ i) ⊎ ((j ≢ i) × IsTaken ps j)
   cases_put j t = elim (cases_eq j i) [
-      inl e ↦ inl e
-    | inr ne ↦ inr (ne, λ e. t (ap (λ (q : ℕ × ℕ). q.0) (put_there j ne) ∙ e)) ]
+    | inl e ↦ inl e
+    | inr ne ↦ inr (ne, λ e. t (ap (λ (q : ℕ × ℕ). q.0) (put_there j ne) ∙ e))
+  ]

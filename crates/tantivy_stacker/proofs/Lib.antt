@@ -12,3 +12,5 @@ pub mod Hashes
 pub mod Entries
 pub mod Inserting
 pub mod Maps
+pub mod Rehashing
+pub mod Mutating

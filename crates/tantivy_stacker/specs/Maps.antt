@@ -1,8 +1,13 @@
 -- Hash maps in an arena: a table of places, each free or taken by an entry, and the entries in the arena.
-use Rattle.std.specs.Prelude.{◌≡◌, ◌≢◌, ℕ, ◌+◌, ◌-◌, ◌*◌, ◌<◌, ◌≤◌, ◌==◌, ◌⊎◌, ⊤, Bool, not, nat_lt, List, [], ◌∷◌, ◌++◌, length, map, filter, count_by, slice_index_or, slice_set, bit_and, Option, Some, None, MatchOption, if◌then◌else◌}
+use Rattle.std.specs.Prelude.{◌≡◌, ◌≢◌, ℕ, ◌+◌, ◌-◌, ◌*◌, ◌<◌, ◌≤◌, ◌==◌, ◌⊎◌, ⊤, Bool, not, nat_lt, List, [], ◌∷◌, ◌++◌, length, take, map, filter, count_by, slice_index_or, slice_set, bit_and, Option, Some, None, MatchOption, if◌then◌else◌}
 use Rattle.std.specs.Int.{w16, from_le_bytes}
 use Rattle.tantivy_stacker.specs.Arena.{Arena, Lies, bytes_at, top, spent, IsFull, Keeps}
+use Rattle.tantivy_stacker.specs.Lists.{KeepsBut}
 use Rattle.tantivy_stacker.specs.Hashing.{hash_of}
+
+-- the key that a map takes: at most the first 65,535 bytes
+unfoldable pub cut_key : List ℕ → List ℕ
+cut_key key = take 65535 key
 
 -- A table: the address of an entry and its hash at each place, or the null address, and how many places are taken.
 pub record Table : Type 0 where
@@ -90,3 +95,39 @@ pub record MapPuts {V : Type 0} (size : ℕ) (item : List ℕ → V) (old new : 
   pub entry : HasEntry size item new u key v
   pub kept : (k : List ℕ) (w : V) → k ≢ key → HasEntry size item old t k w → HasEntry size item new u k w
   pub only : (k : List ℕ) (w : V) → k ≢ key → HasEntry size item new u k w → HasEntry size item old t k w
+
+-- A call on a map leaves all that it holds as it was.
+pub record MapStays {V : Type 0} (size : ℕ) (item : List ℕ → V) (old new : Arena) (t u : Table) : Type 0 where
+  pub kept : (k : List ℕ) (w : V) → HasEntry size item old t k w → HasEntry size item new u k w
+  pub only : (k : List ℕ) (w : V) → HasEntry size item new u k w → HasEntry size item old t k w
+
+-- the places of a map: the address and the length of each entry
+unfoldable pub map_places : ℕ → Arena → Table → List (ℕ × ℕ)
+map_places size a t = map (λ p. (p.0, entry_size size a p.0)) (filter is_taken t.places)
+
+-- What a call leaves of the arena: the map is held, and what was handed out reads as before but for the map's places. These are
+-- afterwards those that it had, and places that no earlier call handed out.
+pub record MapWrite (size : ℕ) (old new : Arena) (t u : Table) : Type 0 where
+  pub held : IsHeldMap size new u
+  pub others : KeepsBut old new (map_places size old t)
+  pub places : (j : ℕ) → IsTaken u.places j → ((i : ℕ) × IsTaken t.places i × ((place t.places i).0 ≡ (place u.places j).0) × (entry_size size old (place t.places i).0 ≡ entry_size size new (place u.places j).0)) ⊎ (top old ≤ (place u.places j).0)
+  pub end : top old ≤ top new
+
+-- A place was filed at a free place of a table, to which its hash leads.
+pub record IsFiledAnew (old new : List (ℕ × ℕ)) (p : ℕ × ℕ) : Type 0 where
+  pub at : ℕ
+  pub leads : Leads old p.1 at
+  pub free : (place old at).0 ≡ 4294967295
+  pub within : at < length old
+  pub is : new ≡ slice_set old at p
+
+-- No two taken places have one address.
+abbrev pub AreUnique : List (ℕ × ℕ) → Type 0
+AreUnique ps = (i j : ℕ) → IsTaken ps i → IsTaken ps j → (place ps i).0 ≡ (place ps j).0 → i ≡ j
+
+-- The taken places of one table stand, found by their hashes, in another: the first `upto` of them, and nothing else.
+pub record Rehashes (ps qs : List (ℕ × ℕ)) (upto : ℕ) : Type 0 where
+  pub filed : (i : ℕ) → i < upto → IsTaken ps i → IsFiled qs (place ps i)
+  pub source : (j : ℕ) → IsTaken qs j → (i : ℕ) × (i < upto) × IsTaken ps i × (place ps i ≡ place qs j)
+  pub unique : AreUnique qs
+  pub counted : count_by is_taken qs ≡ count_by is_taken (take upto ps)

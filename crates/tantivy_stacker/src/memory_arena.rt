@@ -59,6 +59,7 @@ impl MemoryArena {
         ensures space { OnOk result (self.new ≡ with_space self.old len) }
         ensures laws { IfOk result (λ addr. HandsOut self.old self.new addr len) }
         ensures pages { length self.old.pages ≤ 4096 }
+        ensures pages_after { length self.new.pages ≤ 4096 }
         ensures unchanged { OnErr result (self.new ≡ self.old) }
         ensures full { (result ≡ Err ArenaError.ArenaFull) ↔ HasNoSpace self.old len }
         ensures at_limit { IfErr result (λ e. e ≡ ArenaError.ArenaFull → (m : ℕ) → len ≤ m → IsAtLimit self.old m) }
@@ -73,6 +74,7 @@ impl MemoryArena {
         requires bound { len ≤ page_bytes }
         ensures first { 1 ≤ length self.old.pages }
         ensures pages { length self.old.pages ≤ 4096 }
+        ensures pages_after { length self.new.pages ≤ 4096 }
         ensures last { length (page self.old (last_page self.old)) ≤ page_bytes }
         ensures place { IfOk result (λ addr. addr ≡ next_place self.old len) }
         ensures space { OnOk result (self.new ≡ with_space self.old len) }
@@ -199,6 +201,7 @@ impl MemoryArena {
         requires some { 1 ≤ len }
         requires bound { len ≤ page_bytes }
         requires no_room { page_bytes < length (page self.old (last_page self.old)) + len }
+        ensures pages_after { length self.new.pages ≤ 4096 }
         ensures place { IfOk result (λ addr. addr ≡ next_place self.old len) }
         ensures space { OnOk result (self.new ≡ with_space self.old len) }
         ensures unchanged { OnErr result (self.new ≡ self.old) }

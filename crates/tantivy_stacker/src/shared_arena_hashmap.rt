@@ -1,9 +1,9 @@
 // Hash maps whose entries stand in an arena that they share with others.
-ghost use Rattle.std.specs.Prelude.{◌≡◌, ◌≢◌, ℕ, ◌+◌, ◌-◌, ◌*◌, ◌%◌, ◌^◌, ◌<◌, ◌≤◌, ◌==◌, ◌↔◌, IsTrue, length, take, count_by, IfOk, OnOk, OnErr, IfErr};
-ghost use Rattle.tantivy_stacker.specs.Arena.{Lies, bytes_at};
+ghost use Rattle.std.specs.Prelude.{Option, replicate, max, ◌⊎◌, List, Some, None, ◌≡◌, ◌≢◌, ℕ, ◌+◌, ◌-◌, ◌*◌, ◌%◌, ◌^◌, ◌<◌, ◌≤◌, ◌==◌, ◌↔◌, IsTrue, length, take, count_by, IfOk, OnOk, OnErr, IfErr};
+ghost use Rattle.tantivy_stacker.specs.Arena.{Lies, bytes_at, spent, IsFull, IsAtLimit};
 ghost use Rattle.tantivy_stacker.specs.Hashing.{hash_of};
-ghost use Rattle.tantivy_stacker.specs.Maps.{place, is_taken, IsTaken, Leads, key_length, key_at, IsHeldMap, Finds};
-ghost use Rattle.tantivy_stacker.specs.Probes.{ProbeIs, IsSearchable};
+ghost use Rattle.tantivy_stacker.specs.Maps.{HasEntry, place, is_taken, IsTaken, Leads, key_length, key_at, IsHeldMap, Finds, EntryWritten, MapPuts, MapStays, MapWrite, AreUnique, Rehashes, IsFiledAnew, cut_key};
+ghost use Rattle.tantivy_stacker.specs.Probes.{ProbeIs, IsSearchable, IsAt, IsFreeFor, IsAbsent};
 
 use crate::hash::get_hash;
 use crate::table::{KeyValue, free_place, home, next_bucket};
@@ -70,11 +70,66 @@ fn find(places: &[KeyValue], arena: &MemoryArena, key: &[u8], hash: u32) -> Prob
     unreachable!()
 }
 
+/// The first 65,535 bytes of a key, or all where it has fewer.
+#[inline]
+fn cut(key: &[u8]) -> &[u8]
+    ensures value { result.now ≡ cut_key key.now }
+    ensures short { length result.now ≤ 65535 }
+{
+    if key.len() > 65535 {
+        &key[..65535]
+    } else {
+        key
+    }
+}
+
+/// Writes an entry: the length of its key as `u16`, the key and the value.
+#[inline]
+fn write_entry<V: ArenaItem>(arena: &mut MemoryArena, addr: Addr, key: &[u8], value: V)
+    requires lies { Lies arena.old addr (2 + length key.now + V.SIZE) }
+    requires short { length key.now ≤ 65535 }
+    requires pages { length arena.old.pages ≤ 4096 }
+    ensures { EntryWritten V.SIZE V.item arena.old arena.new addr key.now value }
+{
+    let len = key.len() as u16;
+    arena.write(addr, &len.to_le_bytes());
+    arena.write(addr.offset(2), key);
+    arena.write_at(addr.offset(2 + u32::from(len)), value);
+}
+
+/// Files each taken place of one table in another, which is empty.
+fn fill_from(table: &mut Vec<KeyValue>, places: &[KeyValue])
+    requires empty { table.old.items ≡ replicate (length table.old.items) (4294967295, 0) }
+    requires unique { AreUnique places.now }
+    requires room { count_by is_taken places.now < length table.old.items }
+    ensures rehashed { Rehashes places.now table.new.items (length places.now) }
+    ensures len { length table.new.items ≡ length table.old.items }
+{
+    for taken in places {
+        file(table, *taken);
+    }
+}
+
+/// Files a taken place in a table.
+#[inline]
+fn file(table: &mut Vec<KeyValue>, taken: KeyValue)
+    requires { count_by is_taken table.old.items < length table.old.items }
+    ensures free { taken.0 ≡ 4294967295 → table.new.items ≡ table.old.items }
+    ensures filed { taken.0 ≢ 4294967295 → IsFiledAnew table.old.items table.new.items taken }
+{
+    if taken.is_free() {
+        return;
+    }
+    let bucket = free_place(table.as_slice(), taken.hash());
+    table[bucket] = taken;
+}
+
 /// Maps from bytes to values, in an arena. Each entry is the key's length as `u16`, the key and the value.
 #[derive(Drop)]
 pub struct SharedArenaHashMap<V> {
     table: Vec<KeyValue>,
     len: usize,
+    alloc: Global,
     value: PhantomData<V>,
 }
 
@@ -109,5 +164,162 @@ impl<V: ArenaItem> SharedArenaHashMap<V> {
         ensures { result ≡ (self.now.count == 0) }
     {
         self.len == 0
+    }
+
+    /// Gives the entry at a place the value that the updater makes of its value.
+    #[inline]
+    fn update<F: FnOnce(Option<V>) -> V>(
+        &self,
+        bucket: usize,
+        arena: &mut MemoryArena,
+        updater: F,
+    ) -> V
+        requires held { IsHeldMap V.SIZE arena.old self.now }
+        requires taken { IsTaken self.now.places bucket }
+        requires callable { (before : V) → HasEntry V.SIZE V.item arena.old self.now (key_at arena.old (place self.now.places bucket).0) before → F.pre updater (Some before) }
+        ensures write { MapWrite V.SIZE arena.old arena.new self.now self.now }
+        ensures puts { MapPuts V.SIZE V.item arena.old arena.new self.now self.now (key_at arena.old (place self.now.places bucket).0) result }
+        ensures called { (before : V) × HasEntry V.SIZE V.item arena.old self.now (key_at arena.old (place self.now.places bucket).0) before × F.post updater (Some before) result }
+        ensures spends { spent arena.new ≡ spent arena.old }
+        ensures full { (m : ℕ) → IsFull arena.old m → IsFull arena.new m }
+    {
+        let addr = value_addr(arena, self.table[bucket].addr());
+        let value = updater(Some(arena.read(addr)));
+        arena.write_at(addr, value);
+        value
+    }
+
+    /// Adds an entry at a free place.
+    #[inline]
+    fn create<F: FnOnce(Option<V>) -> V>(
+        &mut self,
+        bucket: usize,
+        key: &[u8],
+        hash: u32,
+        arena: &mut MemoryArena,
+        updater: F,
+    ) -> Result<V, ArenaError>
+        requires held { IsHeldMap V.SIZE arena.old self.old }
+        requires free { IsFreeFor arena.old self.old.places key.now hash bucket }
+        requires hash { hash ≡ hash_of key.now }
+        requires short { length key.now ≤ 65535 }
+        requires room { self.old.count + 1 < length self.old.places }
+        requires callable { F.pre updater None }
+        ensures write { OnOk result (MapWrite V.SIZE arena.old arena.new self.old self.new) }
+        ensures puts { IfOk result (λ v. MapPuts V.SIZE V.item arena.old arena.new self.old self.new key.now v) }
+        ensures called { IfOk result (λ v. F.post updater None v) }
+        ensures spends { OnOk result (spent arena.new ≡ spent arena.old + (2 + length key.now + V.SIZE)) }
+        ensures full { OnOk result ((m : ℕ) → 2 + length key.now + V.SIZE ≤ m → IsFull arena.old m → IsFull arena.new m) }
+        ensures unchanged { OnErr result (self.new ≡ self.old) }
+        ensures arena { OnErr result (arena.new ≡ arena.old) }
+        ensures at_limit { IfErr result (λ e. e ≡ ArenaError.ArenaFull → (m : ℕ) → 2 + length key.now + V.SIZE ≤ m → IsAtLimit arena.old m) }
+    {
+        let addr = match arena.allocate_space(2 + key.len() + V::SIZE) {
+            Ok(addr) => addr,
+            Err(error) => return Err(error),
+        };
+        let value = updater(None);
+        write_entry(arena, addr, key, value);
+        self.table[bucket] = KeyValue::new(addr, hash);
+        self.len += 1;
+        Ok(value)
+    }
+
+    /// Doubles the table, to at least 8 places.
+    fn resize(&mut self) -> Result<(), AllocError>
+        requires unique { AreUnique self.old.places }
+        requires counted { count_by is_taken self.old.places ≡ self.old.count }
+        requires room { self.old.count < length self.old.places }
+        ensures some { OnOk result (2 ≤ length self.new.places) }
+        ensures rehashed { OnOk result (Rehashes self.old.places self.new.places (length self.old.places)) }
+        ensures size { OnOk result (length self.new.places ≡ max (length self.old.places * 2) 8) }
+        ensures room { OnOk result (self.new.count * 2 < length self.new.places) }
+        ensures count { self.new.count ≡ self.old.count }
+        ensures unchanged { OnErr result (self.new ≡ self.old) }
+    {
+        let len = (self.table.len() * 2).max(8);
+        let mut table = Vec::new(self.alloc);
+        table.resize(len, KeyValue::free())?;
+        fill_from(&mut table, self.table.as_slice());
+        self.table = table;
+        Ok(())
+    }
+
+    /// Doubles the table where its places are at most twice its entries.
+    #[inline]
+    fn make_room(&mut self) -> Result<(), AllocError>
+        requires unique { AreUnique self.old.places }
+        requires counted { count_by is_taken self.old.places ≡ self.old.count }
+        requires room { self.old.count < length self.old.places }
+        requires some { 2 ≤ length self.old.places }
+        ensures some { OnOk result (2 ≤ length self.new.places) }
+        ensures rehashed { OnOk result ((self.new ≡ self.old) ⊎ Rehashes self.old.places self.new.places (length self.old.places)) }
+        ensures room { OnOk result (self.new.count * 2 < length self.new.places) }
+        ensures count { self.new.count ≡ self.old.count }
+        ensures unchanged { OnErr result (self.new ≡ self.old) }
+    {
+        if self.table.len() <= self.len * 2 {
+            return self.resize();
+        }
+        Ok(())
+    }
+
+    /// Gives a key, cut to 65,535 bytes, the value that the updater makes of the value before. All memory is found before
+    /// the updater is called. After an error the map holds what it held.
+    #[inline]
+    pub fn mutate_or_create<F: FnOnce(Option<V>) -> V>(
+        &mut self,
+        key: &[u8],
+        arena: &mut MemoryArena,
+        updater: F,
+    ) -> Result<V, ArenaError>
+        requires held { IsHeldMap V.SIZE arena.old self.old }
+        requires callable { (before : Option V) → Finds V.SIZE V.item arena.old self.old (cut_key key.now) before → F.pre updater before }
+        ensures write { MapWrite V.SIZE arena.old arena.new self.old self.new }
+        ensures puts { IfOk result (λ v. MapPuts V.SIZE V.item arena.old arena.new self.old self.new (cut_key key.now) v) }
+        ensures called { IfOk result (λ v. (before : Option V) × Finds V.SIZE V.item arena.old self.old (cut_key key.now) before × F.post updater before v) }
+        ensures same { OnErr result (MapStays V.SIZE V.item arena.old arena.new self.old self.new) }
+        ensures arena { OnErr result (arena.new ≡ arena.old) }
+        ensures space { spent arena.new ≤ spent arena.old + (2 + length (cut_key key.now) + V.SIZE) }
+        ensures there { (IsAbsent arena.old self.old.places (cut_key key.now) → ⊥) → spent arena.new ≡ spent arena.old }
+        ensures full { (m : ℕ) → 2 + length (cut_key key.now) + V.SIZE ≤ m → IsFull arena.old m → IsFull arena.new m }
+        ensures absent { IfErr result (λ e. e ≡ ArenaError.ArenaFull → IsAbsent arena.old self.old.places (cut_key key.now)) }
+        ensures at_limit { IfErr result (λ e. e ≡ ArenaError.ArenaFull → (m : ℕ) → 2 + length (cut_key key.now) + V.SIZE ≤ m → IsAtLimit arena.old m) }
+    {
+        match self.make_room() {
+            Ok(()) => {}
+            Err(_) => return Err(ArenaError::Memory),
+        }
+        self.put(cut(key), arena, updater)
+    }
+
+    /// `mutate_or_create`, of a map that has room.
+    #[inline]
+    fn put<F: FnOnce(Option<V>) -> V>(
+        &mut self,
+        key: &[u8],
+        arena: &mut MemoryArena,
+        updater: F,
+    ) -> Result<V, ArenaError>
+        requires held { IsHeldMap V.SIZE arena.old self.old }
+        requires room { self.old.count + 1 < length self.old.places }
+        requires short { length key.now ≤ 65535 }
+        requires callable { (before : Option V) → Finds V.SIZE V.item arena.old self.old key.now before → F.pre updater before }
+        ensures write { OnOk result (MapWrite V.SIZE arena.old arena.new self.old self.new) }
+        ensures puts { IfOk result (λ v. MapPuts V.SIZE V.item arena.old arena.new self.old self.new key.now v) }
+        ensures called { IfOk result (λ v. (before : Option V) × Finds V.SIZE V.item arena.old self.old key.now before × F.post updater before v) }
+        ensures unchanged { OnErr result (self.new ≡ self.old) }
+        ensures arena { OnErr result (arena.new ≡ arena.old) }
+        ensures space { spent arena.new ≤ spent arena.old + (2 + length key.now + V.SIZE) }
+        ensures there { (IsAbsent arena.old self.old.places key.now → ⊥) → spent arena.new ≡ spent arena.old }
+        ensures full { (m : ℕ) → 2 + length key.now + V.SIZE ≤ m → IsFull arena.old m → IsFull arena.new m }
+        ensures absent { OnErr result (IsAbsent arena.old self.old.places key.now) }
+        ensures at_limit { IfErr result (λ e. e ≡ ArenaError.ArenaFull → (m : ℕ) → 2 + length key.now + V.SIZE ≤ m → IsAtLimit arena.old m) }
+    {
+        let hash = get_hash(key);
+        match find(self.table.as_slice(), arena, key, hash) {
+            Probe::Taken(bucket) => Ok(self.update(bucket, arena, updater)),
+            Probe::Free(bucket) => self.create(bucket, key, hash, arena, updater),
+        }
     }
 }

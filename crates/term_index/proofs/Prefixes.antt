@@ -1,9 +1,9 @@
 -- What a write that fails has appended, behind what was appended before.
-use Rattle.std.proofs.Common.{◌≡◌, ℕ, List, ◌++◌, ◌∷◌, [], length, take, drop, None, Some, Option, sym, ap, ◌∙◌, refl, append_assoc, append-nil}
+use Rattle.std.proofs.Common.{◌≡◌, ℕ, List, ◌++◌, length, take, drop, None, Some, Option, sym, ap, ◌∙◌, refl, append_assoc}
 use Rattle.std.proofs.lemmas.List.{take_at}
 use Rattle.std.specs.Io.{StartsWith}
 use Rattle.std.proofs.KnownBytes.{starts_with_rest}
-use Rattle.std.specs.Io.KnownBytes.{Appends, Keeps}
+use Rattle.std.specs.Io.KnownBytes.{Appends}
 use Rattle.owned_bytes.specs.Outside.{AppendsPrefix}
 
 -- what is at the front of a front is at the front of the whole
@@ -32,19 +32,3 @@ AppendsPrefix-behind None b c front more p q = tt
 AppendsPrefix-behind (Some xs) None c front more p q = absurd p
 AppendsPrefix-behind (Some xs) (Some ys) None front more p q = absurd q
 AppendsPrefix-behind (Some xs) (Some ys) (Some zs) front more p q = behind xs ys zs front more p q.0 q.1
-
--- nothing is a prefix of anything, and all is a prefix
-pub AppendsPrefix-kept : (a b : Option (List ℕ)) (text : List ℕ) → Keeps a b → AppendsPrefix a b text
-AppendsPrefix-kept None b text kept = tt
-AppendsPrefix-kept (Some xs) None text kept = absurd kept
-AppendsPrefix-kept (Some xs) (Some ys) text kept = (ap (take (length xs)) (kept ∙ sym (append-nil xs)) ∙ take_at xs [] (length xs) refl, ap (λ (l : List ℕ). take (length l) (xs ++ text)) kept ∙ take_at xs text (length xs) refl ∙ sym kept)
-
-pub AppendsPrefix-whole : (a b c : Option (List ℕ)) (text : List ℕ) → Appends a b text → Keeps b c → AppendsPrefix a c text
-AppendsPrefix-whole None b c text all kept = tt
-AppendsPrefix-whole (Some xs) None c text all kept = absurd all
-AppendsPrefix-whole (Some xs) (Some ys) None text all kept = absurd kept
-AppendsPrefix-whole (Some xs) (Some ys) (Some zs) text all kept =
-    let same : zs ≡ xs ++ text = kept ∙ all in (
-      ap (take (length xs)) same ∙ take_at xs text (length xs) refl,
-      ap (λ (l : List ℕ). take (length l) (xs ++ text)) same ∙ ap (take (length (xs ++ text))) (sym (append-nil (xs ++ text))) ∙ take_at (xs ++ text) [] (length (xs ++ text)) refl ∙ sym same,
-    )

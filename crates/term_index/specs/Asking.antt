@@ -9,7 +9,7 @@ use Rattle.term_documents.specs.Documents.{numbers_where, holds_all, AreValidDoc
 use Rattle.term_search.specs.Expressions.{means}
 use Rattle.term_search.specs.Printed.{IsPrinted, Spells}
 use Rattle.term_index.specs.declared.outcome.Outcome.{Outcome}
-use Rattle.term_index.specs.declared.outcome.Outcome.TheVariants.{Done, Usage, NotYet, InputTooLong, BadInput, TooManyDocuments, BadField, KeyTooLong, ArenaFull, Query, TooDeep, UnsupportedSlop, UnsupportedRegex, Version, Corrupt, Compressed, InFault, StoreFault, ReadFault, OutFault, Memory}
+use Rattle.term_index.specs.declared.outcome.Outcome.TheVariants.{Done, Usage, NotYet, InputTooLong, BadInput, ArenaFull, InFault, OutFault, Memory}
 use Rattle.term_index.specs.Commands.{command_of, ask}
 use Rattle.term_index.specs.Reading.{docs_of}
 use Rattle.term_index.specs.Lines.{lines}

@@ -1,7 +1,7 @@
 -- A printed conjunction is the text of its terms, and means that each of them is held.
 use Rattle.std.proofs.Common.{◌≡◌, ◌≢◌, ◌<◌, ◌⊎◌, inl, inr, get_or, ℕ, zero, suc, Bool, List, [], ◌∷◌, ◌++◌, refl, sym, ap, ◌∙◌, arith, append_assoc, append-nil, Box, Global}
 use denote.RawPtr.{null_ptr}
-use Rattle.std.specs.Prelude.{All, codes, ◌&&◌, true}
+use Rattle.std.specs.Prelude.{All, codes, ◌&&◌}
 use Rattle.std.specs.List.{list_all}
 use Rattle.std.proofs.lemmas.List.Elements.{All-append}
 use Rattle.term_documents.specs.Documents.{holds, holds_all, numbers_where}

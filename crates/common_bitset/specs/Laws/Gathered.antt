@@ -210,7 +210,7 @@ total_counts (suc n) word short =
     ∙ (λ i. total_counts n word short i + nth_word n word (short n) i)
 
 -- the numbers from max on pass no test
-beyond : (max n : ℕ) (word : ℕ → Numbers) → AreWords max word → max ≤ 64 * n → filter (is_in word) (range_with_len 0 (64 * n)) ≡ filter (is_in word) (range_with_len 0 max)
+pub beyond : (max n : ℕ) (word : ℕ → Numbers) → AreWords max word → max ≤ 64 * n → filter (is_in word) (range_with_len 0 (64 * n)) ≡ filter (is_in word) (range_with_len 0 max)
 beyond max n word are enough =
     let whole : 64 * n ≡ max + (64 * n - max) = omega arith in
     ap (λ m. filter (is_in word) (range_with_len 0 m)) whole ∙ filter_parts (is_in word) 0 max (64 * n - max)

@@ -1,5 +1,5 @@
 -- What the rest spells, behind the pairs so far, is what the query spells.
-use Rattle.std.proofs.Common.{◌≡◌, ◌++◌, ℕ, List, length}
+use Rattle.std.proofs.Common.{◌≡◌, ◌++◌, List, length}
 use denote.Shadow.{shadow}
 use denote.Text.{Utf8}
 use Rattle.term_documents.specs.declared.documents.Pair.{Pair}

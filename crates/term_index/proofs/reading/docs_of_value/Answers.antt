@@ -1,4 +1,4 @@
-use Rattle.std.proofs.Common.{◌≡◌, ◌∙◌, ap, Some, map, Vec, Global}
+use Rattle.std.proofs.Common.{◌≡◌, ◌∙◌, ap, map, Vec, Global}
 use Rattle.std.specs.Prelude.{⊤}
 use Rattle.std.proofs.lemmas.Result.{IfOk-weaker, MatchResult-weaker}
 use Rattle.serde_json.specs.View.{view}
@@ -6,7 +6,7 @@ use Rattle.serde_json.specs.declared.value.Value.{Value}
 use Rattle.serde_json.specs.declared.value.Value as variant
 use Rattle.serde_json.proofs.Views.{view-Array}
 use Rattle.term_index.specs.Reading.{gathered, doc_of, docs_of_value}
-use Rattle.term_index.proofs.Steps.{values-items_of}
+use Rattle.term_index.proofs.Values.{values-items_of}
 use Rattle.term_index.proofs.reading.docs_of_value.Goals as goal
 
 -- the documents of an array are those of its objects

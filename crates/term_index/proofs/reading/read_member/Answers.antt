@@ -6,8 +6,8 @@ use Rattle.serde_json.specs.declared.value.Value.{Value}
 use Rattle.serde_json.specs.declared.value.Value as variant
 use Rattle.serde_json.proofs.Views.{view-Array}
 use Rattle.std.proofs.Common.{Vec, Global}
-use Rattle.term_index.specs.Reading.{both, gathered, values, pair_of_text, pairs_of_member}
-use Rattle.term_index.proofs.Steps.{values-items_of}
+use Rattle.term_index.specs.Reading.{both, gathered, pair_of_text, pairs_of_member}
+use Rattle.term_index.proofs.Values.{values-items_of}
 use Rattle.term_index.proofs.reading.read_member.Goals as goal
 
 -- the pairs of an array are those of its texts
