@@ -117,3 +117,42 @@ fn name(n: u64) -> &'static str
         "PB"
     }
 }
+
+#[tactic(auto, unfolding(crate::specs::ByteText::byte_text))]
+impl fmt::Display for ByteCount {
+    ghost use Rattle.std.specs.Prelude.{Some};
+    ghost use Rattle.common_wire.specs.ByteText.{byte_text};
+
+    ghost output = { λ b. Some (byte_text b) };
+
+    fn fmt<W: fmt::Write>(&self, f: &mut fmt::Formatter<W>) -> fmt::Result {
+        let n = self.0;
+        if n < 1000 {
+            return write!(f, "{n} B");
+        }
+        let unit = unit(n);
+        let hundredths = n / unit * 100 + (n % unit * 100 + unit / 2) / unit;
+        let whole = hundredths / 100;
+        let tenth = hundredths / 10 % 10;
+        let last = hundredths % 10;
+        let name = name(n);
+        write!(f, "{whole}.{tenth}{last} {name}")
+    }
+}
+
+impl fmt::Debug for ByteCount {
+    fn fmt<W: fmt::Write>(&self, f: &mut fmt::Formatter<W>) -> fmt::Result {
+        fmt::Display::fmt(self, f)
+    }
+}
+
+impl ByteCount {
+    /// The text below 1,000 is the number and `B`. From there on it is two decimals, rounded half up, of the greatest of
+    /// `KB`, `MB`, `GB`, `TB` and `PB`, powers of 1,000, that isn't above the number.
+    pub fn human_readable(&self, alloc: Global) -> Result<String, AllocError>
+        ensures { IfOk result (λ text. string_bytes text ≡ byte_text self.now) }
+    {
+        let count = *self;
+        format!(in alloc; "{count}")
+    }
+}

@@ -1,0 +1,7 @@
+//! Outside vectors and worked rows of the crates, as tests.
+#![tactic(auto)]
+
+#[cfg(test)]
+mod adapters;
+#[cfg(test)]
+mod wire;
