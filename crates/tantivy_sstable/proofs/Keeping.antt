@@ -108,7 +108,7 @@ pub finds-v2 : {V W : Type 0} (shown : W → V) (codec : Codec V) (opened : Open
 finds-v2 shown codec opened None key none = tt
 finds-v2 shown codec opened (Some bytes) key none =
     finds-none shown codec opened.num_terms (slice_range bytes opened.blocks_range.start opened.blocks_range.end) key (entries_told codec opened (Some bytes))
-      (ap (λ i. entries_under codec i opened.num_terms (slice_range bytes opened.blocks_range.start opened.blocks_range.end)) none)
+    (ap (λ i. entries_under codec i opened.num_terms (slice_range bytes opened.blocks_range.start opened.blocks_range.end)) none)
 
 -- what a look-up in the bytes of the blocks answers of the table
 pub finds-in : {V W : Type 0} (shown : W → V) (codec : Codec V) (opened : Opened) (contents : Option (List ℕ)) (start end : ℕ) (blocks : List ℕ) (key : Key) (result : Result (Option W) SstError)
@@ -118,4 +118,4 @@ finds-in shown codec opened None start end blocks key result a b part all = tt
 finds-in shown codec opened (Some bytes) start end blocks key result a b part all =
     let here : blocks ≡ slice_range bytes opened.blocks_range.start opened.blocks_range.end = part ∙ ap (λ n. slice_range bytes n end) a ∙ ap (λ n. slice_range bytes opened.blocks_range.start n) b in
     finds-told shown key (entries_told codec opened (Some bytes)) result
-      (λ entries is. all entries (ap (run_of codec) here ∙ run_of-table codec opened.index opened.num_terms (slice_range bytes opened.blocks_range.start opened.blocks_range.end) entries is))
+    (λ entries is. all entries (ap (run_of codec) here ∙ run_of-table codec opened.index opened.num_terms (slice_range bytes opened.blocks_range.start opened.blocks_range.end) entries is))
