@@ -14,3 +14,4 @@ pub mod Inserting
 pub mod Maps
 pub mod Rehashing
 pub mod Mutating
+pub mod MapFacts

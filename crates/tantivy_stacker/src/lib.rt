@@ -2,6 +2,7 @@
 #![tactic(auto)]
 
 mod addr;
+mod arena_hashmap;
 mod arena_item;
 mod error;
 mod expull;
@@ -15,10 +16,15 @@ mod shared_arena_hashmap;
 mod table;
 
 pub use addr::Addr;
+pub use arena_hashmap::ArenaHashMap;
 pub use arena_item::{ArenaItem, SingleItem, load, store};
 pub use error::ArenaError;
 pub use expull::{ExpUnrolledLinkedList, ExpUnrolledLinkedListWriter};
 pub use fastcmp::{fast_nbyte_slice_compare, fast_short_slice_compare};
 pub use fastcpy::fast_short_slice_copy;
+pub use shared_arena_hashmap::{SharedArenaHashMap, compute_table_memory_size};
 pub use laws::{list_laws, room_laws};
 pub use memory_arena::MemoryArena;
+
+/// The number of a key of a map.
+pub type UnorderedId = u32;

@@ -1,8 +1,8 @@
 // Hash maps whose entries stand in an arena that they share with others.
-ghost use Rattle.std.specs.Prelude.{Option, replicate, max, ◌⊎◌, List, Some, None, ◌≡◌, ◌≢◌, ℕ, ◌+◌, ◌-◌, ◌*◌, ◌%◌, ◌^◌, ◌<◌, ◌≤◌, ◌==◌, ◌↔◌, IsTrue, length, take, count_by, IfOk, OnOk, OnErr, IfErr};
+ghost use Rattle.std.specs.Prelude.{Option, replicate, min, max, ◌⊎◌, List, Some, None, ◌≡◌, ◌≢◌, ℕ, ◌+◌, ◌-◌, ◌*◌, ◌%◌, ◌^◌, ◌<◌, ◌≤◌, ◌==◌, ◌↔◌, IsTrue, length, take, count_by, IfOk, OnOk, OnErr, IfErr};
 ghost use Rattle.tantivy_stacker.specs.Arena.{Lies, bytes_at, spent, IsFull, IsAtLimit};
 ghost use Rattle.tantivy_stacker.specs.Hashing.{hash_of};
-ghost use Rattle.tantivy_stacker.specs.Maps.{HasEntry, place, is_taken, IsTaken, Leads, key_length, key_at, IsHeldMap, Finds, EntryWritten, MapPuts, MapStays, MapWrite, AreUnique, Rehashes, IsFiledAnew, cut_key};
+ghost use Rattle.tantivy_stacker.specs.Maps.{HasEntry, place, is_taken, IsTaken, Leads, key_length, key_at, IsHeldMap, Finds, EntryWritten, MapPuts, MapStays, MapWrite, AreUnique, Rehashes, IsFiledAnew, cut_key, IsTableSize, IsEmptyMap};
 ghost use Rattle.tantivy_stacker.specs.Probes.{ProbeIs, IsSearchable, IsAt, IsFreeFor, IsAbsent};
 
 use crate::hash::get_hash;
@@ -141,7 +141,54 @@ impl<V> Model for SharedArenaHashMap<V> {
     ghost view = { λ m. record { places = m.table.items; count = m.len } };
 }
 
+/// The bytes of a table of so many places.
+pub fn compute_table_memory_size(capacity: usize) -> usize
+    requires { capacity * 8 < 2 ^ 64 }
+    ensures { result ≡ capacity * 8 }
+{
+    capacity * 8
+}
+
+/// The greatest power of two at most `size`, but at least 2.
+#[tactic(auto, unfolding(crate::specs::Maps::IsTableSize))]
+fn table_len(size: usize) -> usize
+    requires some { 1 ≤ size }
+    requires bound { size ≤ 2 ^ 31 }
+    ensures len { IsTableSize size result }
+    ensures at_least { 2 ≤ result }
+{
+    let mut len = 2;
+    while len <= size / 2 {
+        len *= 2;
+    }
+    len
+}
+
 impl<V: ArenaItem> SharedArenaHashMap<V> {
+    /// An empty map, whose table has the greatest power of two of places at most `table_size`, but at least two.
+    pub fn with_capacity(alloc: Global, table_size: usize) -> Result<Self, AllocError>
+        requires some { 1 ≤ table_size }
+        requires bound { table_size ≤ 2 ^ 31 }
+        ensures places { IfOk result (λ m. IsTableSize table_size (length m.places)) }
+        ensures empty { IfOk result IsEmptyMap }
+    {
+        let mut table = Vec::new(alloc);
+        table.resize(table_len(table_size), KeyValue::free())?;
+        Ok(SharedArenaHashMap {
+            table,
+            len: 0,
+            alloc,
+            value: PhantomData,
+        })
+    }
+
+    /// The bytes of the table, or the greatest `usize` where they are more.
+    pub fn mem_usage(&self) -> usize
+        ensures { result ≡ min (length self.now.places * 8) (2 ^ 64 - 1) }
+    {
+        self.table.len().saturating_mul(8)
+    }
+
     /// The value at a key.
     #[inline]
     pub fn get(&self, key: &[u8], arena: &MemoryArena) -> Option<V>
