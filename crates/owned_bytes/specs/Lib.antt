@@ -1,4 +1,5 @@
 pub mod Outside
+pub mod InMemory
 pub mod Front
 pub mod Reader
 pub mod Keys

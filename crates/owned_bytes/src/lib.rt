@@ -2,19 +2,27 @@
 #![tactic(auto)]
 
 mod boxed;
-mod bytes_file;
+mod failing;
+mod files;
 mod items;
+mod keys;
 mod lists;
-mod memory;
 mod outside;
+mod passing;
 mod shared;
+mod sinks;
+mod sources;
 mod standard;
+mod wrap_file;
 
 pub use boxed::Boxed;
-pub use bytes_file::BytesFile;
+pub use files::{BytesFile, MemFile};
 pub use items::Items;
+pub use keys::{Key, KeyList};
 pub use lists::{Ids, Text, Texts};
-pub use memory::{MemSink, MemSource, SliceSource, VecSink};
 pub use outside::{FileHandle, HandleError, HasLen, Sink, SinkError, Source, SourceFault};
 pub use shared::OwnedBytes;
+pub use sinks::{MemSink, VecSink};
+pub use sources::{MemSource, SliceSource};
 pub use standard::{StdSink, StdSource};
+pub use wrap_file::WrapFile;

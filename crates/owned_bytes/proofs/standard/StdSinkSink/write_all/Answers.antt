@@ -1,4 +1,4 @@
-use Rattle.std.proofs.Common.{◌≡◌, ℕ, ◌-◌, List, ◌++◌, length, take, drop, sym, ap, ◌∙◌, append_assoc, take-append-drop}
+use Rattle.std.proofs.Common.{◌≡◌, ℕ, ◌-◌, List, ◌++◌, length, take, drop, sym, ap, ◌∙◌, append_assoc, arith, take-append-drop}
 use Rattle.std.proofs.lemmas.List.{take_rest}
 use Rattle.std.proofs.KnownBytes.{Appends-trans}
 use Rattle.owned_bytes.proofs.standard.StdSinkSink.write_all.Goals as goal
@@ -11,8 +11,8 @@ pub loop-rest-preserved : goal.loop-rest-preserved
 loop-rest-preserved g c =
     let (front, split, appended) = c.loop-rest.invariant.gone in
     let rest = c.loop-rest.rest.now in
-    let n = c.in-Ok.count in
+    let n = c.in-Some.count in
     record {
-      gone = (front ++ take n rest, moves_front _ front rest n split, Appends-trans _ _ _ _ _ appended c.in-Ok.ensures.bytes);
-      later = c.loop-rest.invariant.later;
+      gone = (front ++ take n rest, moves_front _ front rest n split, Appends-trans _ _ _ _ _ appended c.in-Some.ensures.bytes);
+      later = omega (arith, c.loop-rest.invariant.later, c.write_piece.ensures.cause.later);
     }

@@ -1,0 +1,5 @@
+pub mod FromSources
+pub mod VintLaws
+pub mod NumbersRead
+pub mod PairsRead
+pub mod ListsRead

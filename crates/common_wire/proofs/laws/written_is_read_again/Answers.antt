@@ -1,0 +1,4 @@
+use Rattle.common_wire.proofs.laws.written_is_read_again.Goals as goal
+
+pub returns : goal.returns
+returns g c = g.met.T.BinarySerializable.again

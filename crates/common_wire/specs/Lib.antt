@@ -1,0 +1,14 @@
+pub mod Counting
+pub mod Tracking
+pub mod Numbers
+pub mod Taking
+pub mod Wire
+pub mod Serialized
+pub mod TakingLaws
+pub mod GroupLaws
+pub mod NumberLaws
+pub mod PairLaws
+pub mod Slices
+pub mod SliceLaws
+pub mod ListLaws
+pub mod ByteText

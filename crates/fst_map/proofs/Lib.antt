@@ -1,0 +1,3 @@
+pub mod Machines
+pub mod Fronts
+pub mod Building

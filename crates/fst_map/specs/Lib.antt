@@ -1,0 +1,5 @@
+pub mod Automaton
+pub mod Machines
+pub mod Map
+pub mod Built
+pub mod Refused

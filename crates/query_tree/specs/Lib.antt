@@ -1,0 +1,11 @@
+pub mod Characters
+pub mod Reader
+pub mod Grammar
+pub mod Aggregation
+pub mod Rewriting
+pub mod Answer
+pub mod Printing
+pub mod Texts
+pub mod Json
+pub mod Groups
+pub mod Building

@@ -1,0 +1,10 @@
+pub mod VintLaws
+pub mod RisingLaws
+pub mod RangeLaws
+pub mod BlockLaws
+pub mod DeltaLaws
+pub mod Rows
+pub mod RunLaws
+pub mod EntryLaws
+pub mod ReaderLaws
+pub mod WritingLaws

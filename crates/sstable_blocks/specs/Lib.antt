@@ -1,0 +1,17 @@
+pub mod Vint
+pub mod Values
+pub mod Codec
+pub mod Range
+pub mod Reads
+pub mod Content
+pub mod BlockReader
+pub mod Delta
+pub mod Block
+pub mod Run
+pub mod Entries
+pub mod BlockSteps
+pub mod DeltaReader
+pub mod Writing
+pub mod DeltaWriter
+pub mod Computes
+pub mod Hex

@@ -1,0 +1,12 @@
+pub mod Powers
+pub mod Bytes
+pub mod Digits
+pub mod Unpacking
+pub mod Packing
+pub mod Runs
+pub mod Words
+pub mod Loads
+pub mod Places
+pub mod LaneMasks
+pub mod LanePlaces
+pub mod Decoding

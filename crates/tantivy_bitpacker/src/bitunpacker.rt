@@ -1,0 +1,252 @@
+// A reader of numbers packed at one width.
+ghost use Rattle.std.specs.Prelude.{◌≡◌, ◌+◌, ◌*◌, ◌%◌, ◌^◌, ◌<◌, ◌≤◌, ◌++◌, ◌-◌, ℕ, length, take, drop, replicate, slice_index, OnOk};
+ghost use Rattle.std.specs.Range.{range_inclusive_start, range_inclusive_end};
+ghost use Rattle.tantivy_bitpacker.specs.Within.{ids_within};
+ghost use Rattle.tantivy_bitpacker.specs.Packed.{as_number, bits_from, unpacked_from};
+
+use crate::groups::unpack_groups_of;
+use crate::{filter_vec_in_place, plain};
+use std::alloc::AllocError;
+use std::marker::Model;
+use std::ops::{Range, RangeInclusive};
+
+const GREATEST_U32: u64 = u32::MAX as u64;
+
+// How many numbers are decoded before they are narrowed.
+const PIECE: usize = 64;
+
+/// Reads numbers that are packed at one width, of 0 to 56 bits or of 64.
+#[derive(Clone, Copy, Debug)]
+pub struct BitUnpacker {
+    num_bits: u8,
+    mask: u64,
+}
+
+impl Model for BitUnpacker {
+    ghost use Rattle.std.specs.Prelude.{◌≡◌, ℕ, ◌^◌, ◌-◌, ◌<◌};
+    ghost use Rattle.std.proofs.Common.{ap, sym};
+
+    ghost Value = { ℕ };
+
+    ghost view = { λ u. u.num_bits };
+
+    ghost invariant = { λ u. (56 < u.num_bits → u.num_bits ≡ 64) × (u.mask ≡ 2 ^ u.num_bits - 1) };
+
+    ghost inverse = { λ width. record { num_bits = width; mask = 2 ^ width - 1 } };
+
+    ghost inverse_ok = { λ u h. ap (λ m. record { num_bits = u.num_bits; mask = m }) (sym h.1) };
+}
+
+impl BitUnpacker {
+    pub fn new(num_bits: u8) -> BitUnpacker
+        requires { 56 < num_bits → num_bits ≡ 64 }
+        ensures { result ≡ num_bits }
+    {
+        let mask = if num_bits == 64 {
+            u64::MAX
+        } else {
+            (1 << num_bits) - 1
+        };
+        BitUnpacker { num_bits, mask }
+    }
+
+    pub fn bit_width(&self) -> u8
+        ensures { result ≡ self.now }
+    {
+        self.num_bits
+    }
+
+    /// The number at the place `idx` of the packed `bytes`.
+    #[inline]
+    pub fn get(&self, idx: u32, bytes: &[u8]) -> u64
+        requires { (idx + 1) * self.now ≤ 8 * length bytes.now }
+        ensures { result ≡ bits_from (idx * self.now) self.now bytes.now }
+    {
+        let place = idx as usize * self.num_bits as usize;
+        (word_at(place / 8, bytes) >> (place % 8)) & self.mask
+    }
+
+    /// The numbers from the place `start_idx` on, as many as `output` holds.
+    pub fn get_range(&self, start_idx: u32, bytes: &[u8], output: &mut [u64])
+        requires places { start_idx + length output.old ≤ 2 ^ 32 }
+        requires within { (start_idx + length output.old) * self.now ≤ 8 * length bytes.now }
+        ensures { output.new ≡ unpacked_from start_idx (length output.old) self.now bytes.now }
+    {
+        let start = start_idx as usize;
+        let count = output.len();
+        let lead = ((8 - start % 8) % 8).min(count);
+        self.get_each(start, 0, lead, bytes, output);
+        let end = self.get_groups(start, lead, bytes, output);
+        self.get_each(start, end, count, bytes, output);
+    }
+
+    // Decodes the numbers from `from` to `to` of those from `start` on, one by one.
+    #[inline]
+    fn get_each(&self, start: usize, from: usize, to: usize, bytes: &[u8], output: &mut [u64])
+        requires ordered { from ≤ to }
+        requires inside { to ≤ length output.old }
+        requires places { start + length output.old ≤ 2 ^ 32 }
+        requires within { (start + length output.old) * self.now ≤ 8 * length bytes.now }
+        ensures { take to output.new ≡ take from output.old ++ unpacked_from (start + from) (to - from) self.now bytes.now }
+    {
+        for i in from..to {
+            output[i] = self.get((start + i) as u32, bytes);
+        }
+    }
+
+    // Decodes the groups of eight from `from` on that begin with a whole byte and have a word of bytes left behind
+    // them, and answers where they end.
+    fn get_groups(&self, start: usize, from: usize, bytes: &[u8], output: &mut [u64]) -> usize
+        requires inside { from ≤ length output.old }
+        requires places { start + length output.old ≤ 2 ^ 32 }
+        requires within { (start + length output.old) * self.now ≤ 8 * length bytes.now }
+        ensures after { from ≤ result }
+        ensures bound { result ≤ length output.old }
+        ensures decoded { take result output.new ≡ take from output.old ++ unpacked_from (start + from) (result - from) self.now bytes.now }
+    {
+        let first = start + from;
+        if self.num_bits > 56 || first % 8 != 0 {
+            return from;
+        }
+        let width = self.num_bits as usize;
+        let (_, rest) = bytes.split_at(first / 8 * width);
+        let groups = groups_within(width, rest.len(), output.len() - from);
+        if groups == 0 {
+            return from;
+        }
+        unpack_groups_of(self.num_bits, rest, groups, from, output);
+        from + 8 * groups
+    }
+
+    /// The ascending ids of `id_range` whose number lies in `range`, in place of what `positions` held. After an error
+    /// it may hold anything.
+    pub fn get_ids_for_value_range(
+        &self,
+        range: RangeInclusive<u64>,
+        id_range: Range<u32>,
+        bytes: &[u8],
+        positions: &mut Vec<u32>,
+    ) -> Result<(), AllocError>
+        requires { id_range.end * self.now ≤ 8 * length bytes.now }
+        ensures { OnOk result (positions.new.items
+            ≡ ids_within (range_inclusive_start range) (range_inclusive_end range) id_range.start id_range.end self.now bytes.now) }
+    {
+        if self.num_bits > 32 || id_range.end < id_range.start {
+            return plain::get_ids_for_value_range(self, range, id_range, bytes, positions);
+        }
+        let low = *range.start();
+        let high = *range.end();
+        if low > GREATEST_U32 {
+            positions.clear();
+            return Ok(());
+        }
+        positions.resize((id_range.end - id_range.start) as usize, 0)?;
+        self.get_batch_u32s(id_range.start, bytes, positions.as_mut_slice());
+        filter_vec_in_place(
+            low as u32..=high.min(GREATEST_U32) as u32,
+            id_range.start,
+            positions,
+        );
+        Ok(())
+    }
+
+    // The numbers from the place `start_idx` on, as many as `output` holds, each below 2^32.
+    fn get_batch_u32s(&self, start_idx: u32, bytes: &[u8], output: &mut [u32])
+        requires narrow { self.now ≤ 32 }
+        requires places { start_idx + length output.old ≤ 2 ^ 32 }
+        requires within { (start_idx + length output.old) * self.now ≤ 8 * length bytes.now }
+        ensures { output.new ≡ unpacked_from start_idx (length output.old) self.now bytes.now }
+    {
+        let start = start_idx as usize;
+        let mut done = 0;
+        while done < output.len() {
+            let count = (PIECE - (start + done) % 8).min(output.len() - done);
+            self.get_piece(start + done, count, bytes, done, output);
+            done += count;
+        }
+    }
+
+    // Puts so many numbers at `at`.
+    fn get_piece(&self, start: usize, count: usize, bytes: &[u8], at: usize, output: &mut [u32])
+        requires narrow { self.now ≤ 32 }
+        requires few { count ≤ PIECE }
+        requires room { at + count ≤ length output.old }
+        requires places { start + count ≤ 2 ^ 32 }
+        requires below { start < 2 ^ 32 }
+        requires within { (start + count) * self.now ≤ 8 * length bytes.now }
+        ensures { take (at + count) output.new ≡ take at output.old ++ unpacked_from start count self.now bytes.now }
+    {
+        let mut buffer = [0; PIECE];
+        let piece = &mut buffer[..count];
+        self.get_range(start as u32, bytes, piece);
+        put_narrow(piece, at, output);
+    }
+}
+
+// Puts the values, each below 2^32, at `at`.
+fn put_narrow(values: &[u64], at: usize, output: &mut [u32])
+    requires narrow { (k : ℕ) → k < length values.now → slice_index values.now k < 2 ^ 32 }
+    requires room { at + length values.now ≤ length output.old }
+    ensures { take (at + length values.now) output.new ≡ take at output.old ++ values.now }
+{
+    for i in 0..values.len() {
+        output[at + i] = values[i] as u32;
+    }
+}
+
+// How many groups of eight of so many numbers lie within so many bytes with a word of bytes left behind them.
+fn groups_within(width: usize, bytes: usize, count: usize) -> usize
+    requires { width ≤ 56 }
+    ensures few { 8 * result ≤ count }
+    ensures room { 0 < result → result * width + 8 ≤ bytes }
+{
+    if bytes < 8 {
+        return 0;
+    }
+    let groups = count / 8;
+    if width == 0 || groups <= (bytes - 8) / width {
+        groups
+    } else {
+        (bytes - 8) / width
+    }
+}
+
+impl Default for BitUnpacker {
+    ghost is_default = { λ u. u ≡ 0 };
+
+    fn default() -> Self {
+        BitUnpacker::new(0)
+    }
+}
+
+// The eight bytes from a place on as a number. Past the last byte they are 0.
+#[inline]
+fn word_at(place: usize, bytes: &[u8]) -> u64
+    requires { place ≤ length bytes.now }
+    ensures { result ≡ as_number (drop place bytes.now) % 2 ^ 64 }
+{
+    let rest = &bytes[place..];
+    match rest.first_chunk::<8>() {
+        Some(word) => u64::from_le_bytes(*word),
+        None => last_word(rest),
+    }
+}
+
+// Fewer than eight bytes as a number.
+#[inline(never)]
+fn last_word(rest: &[u8]) -> u64
+    requires { length rest.now < 8 }
+    ensures { result ≡ as_number rest.now % 2 ^ 64 }
+{
+    u64::from_le_bytes(padded(rest))
+}
+
+// The bytes, and then zeros.
+fn padded(rest: &[u8]) -> [u8; 8]
+    requires { length rest.now < 8 }
+    ensures { result ≡ rest.now ++ replicate (8 - length rest.now) 0 }
+{
+    let mut word = [0; 8];
+    word[..rest.len()].copy_from_slice(rest);
+    word
+}

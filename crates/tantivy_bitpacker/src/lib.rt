@@ -1,0 +1,14 @@
+//! Numbers packed at a width of bits each, and filters over them.
+#![tactic(auto)]
+
+mod bitpacker;
+mod bits;
+mod bitunpacker;
+mod filter_vec;
+mod groups;
+pub mod plain;
+
+pub use bitpacker::BitPacker;
+pub use bits::compute_num_bits;
+pub use bitunpacker::BitUnpacker;
+pub use filter_vec::{filter_vec_in_place, filter_vec_lanes, filter_vec_scalar};

@@ -1,0 +1,16 @@
+use Rattle.std.proofs.Common.{◌≡◌, ℕ, ap, sym, ◌∙◌}
+use Rattle.tantivy_sstable.specs.Opened.{Opened}
+use Rattle.tantivy_sstable.specs.Shown.{shown_index}
+use Rattle.tantivy_sstable.proofs.Keeping.{finds-v2, finds-in}
+use Rattle.tantivy_sstable.proofs.dictionary.Dictionary.get.Goals as goal
+
+pub returns-in-V2-clause-found : goal.returns-in-V2-clause-found
+returns-in-V2-clause-found g c =
+    finds-v2 g.S.Value.StoredValue.shown g.S.ValueReader.ValueReader.codec c.args.self.now (g.H.FileHandle.contents c.args.handle.now) c.args.key.now
+    (sym (ap (λ (o : Opened). o.index) c.self.view_is) ∙ ap shown_index c.in-V2.is)
+
+pub returns-clause-found : goal.returns-clause-found
+returns-clause-found g c =
+    finds-in g.S.Value.StoredValue.shown g.S.ValueReader.ValueReader.codec c.args.self.now (g.H.FileHandle.contents c.args.handle.now) c.range.result.start c.range.result.end c.in-Ok.blocks c.args.key.now c.value_in.result
+    (c.range.ensures.start ∙ ap (λ (o : Opened). o.blocks_range.start) c.self.view_is) (c.range.ensures.end ∙ ap (λ (o : Opened). o.blocks_range.end) c.self.view_is)
+    c.in-Ok.ensures.bytes c.value_in.ensures.found

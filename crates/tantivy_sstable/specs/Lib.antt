@@ -1,0 +1,14 @@
+pub mod Meta
+pub mod Store
+pub mod Footer
+pub mod Index
+pub mod Table
+pub mod Between
+pub mod Opened
+pub mod Opening
+pub mod Shown
+pub mod Steps
+pub mod Reading
+pub mod Reader
+pub mod Computes
+pub mod Rows

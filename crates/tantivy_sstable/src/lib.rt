@@ -1,0 +1,21 @@
+//! Sorted tables of byte strings and values, in blocks, with an index of the blocks.
+//!
+//! A table is its blocks, four zero bytes, an index part, and a footer of 20 bytes: the offset of the index part (`u64`),
+//! the number of keys (`u64`) and the version (`u32`), which is 2 or 3.
+#![tactic(auto)]
+
+mod dictionary;
+mod errors;
+mod index;
+mod lookup;
+mod reader;
+mod table;
+
+pub use dictionary::Dictionary;
+pub use errors::SstError;
+pub use index::{SSTableIndex, SSTableIndexV2, SSTableIndexV3Empty};
+pub use reader::Reader;
+pub use table::{RangeSSTable, SSTable};
+
+#[cfg(test)]
+mod tests;

@@ -1,0 +1,16 @@
+pub mod FirstFault
+pub mod Joined
+pub mod Fields
+pub mod Leaves
+pub mod Chains
+pub mod Bounds
+pub mod Trees
+pub mod Values
+pub mod Characters
+pub mod DeepTrees
+pub mod PrintedLaw
+pub mod Rows
+pub mod Depths
+pub mod Digits
+pub mod Pushed
+pub mod Sizes

@@ -1,0 +1,5 @@
+pub mod Asking
+pub mod Commands
+pub mod Lines
+pub mod Outcomes
+pub mod Reading

@@ -1,0 +1,20 @@
+//! The command line over documents and their index.
+#![tactic(auto)]
+
+mod command;
+mod input;
+mod lines;
+mod outcome;
+mod query;
+mod question;
+mod reading;
+#[cfg(test)]
+mod tests;
+mod words;
+
+pub use command::run;
+pub use input::{InputError, read_input};
+pub use outcome::Outcome;
+pub use query::read_conjunction;
+pub use reading::{DocumentsError, read_documents};
+pub use words::Word;
