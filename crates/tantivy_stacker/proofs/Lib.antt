@@ -15,3 +15,4 @@ pub mod Maps
 pub mod Rehashing
 pub mod Mutating
 pub mod MapFacts
+pub mod Iterating

@@ -159,3 +159,15 @@ OtherMapsStay size item =
     (old new : Arena) (changed : List (ℕ × ℕ)) (t : Table) →
     KeepsBut old new changed → IsHeldMap size old t → All (λ r. IsApart r.0 r.1 changed) (map_places size old t) →
     IsHeldMap size new t × MapStays size item old new t t × (map_places size new t ≡ map_places size old t)
+
+-- the entries of a table, in the order of its places: each key with the address of its value
+unfoldable pub entries_of : Arena → List (ℕ × ℕ) → List (List ℕ × ℕ)
+entries_of a ps = map (λ p. (key_at a p.0, value_place a p.0)) (filter is_taken ps)
+
+-- The entries of the taken places can be read.
+abbrev pub CanBeRead : Arena → List (ℕ × ℕ) → Type 0
+CanBeRead a ps = (i : ℕ) → IsTaken ps i → Lies a (place ps i).0 (2 + key_length a (place ps i).0 + 1)
+
+-- An item is the first entry, and the others are left; at the end none is left.
+abbrev pub GivesEntry : Arena → List (ℕ × ℕ) → Option (List ℕ × ℕ) → List (ℕ × ℕ) → Type 0
+GivesEntry a before found after = MatchOption found ((entries_of a before ≡ []) × (after ≡ [])) (λ e. entries_of a before ≡ e ∷ entries_of a after)

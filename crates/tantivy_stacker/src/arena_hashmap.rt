@@ -1,9 +1,9 @@
 // Hash maps that own their arena.
-ghost use Rattle.std.specs.Prelude.{Option, ◌≡◌, ℕ, ◌+◌, ◌*◌, ◌^◌, ◌<◌, ◌≤◌, ◌==◌, List, length, IfOk, OnErr, IfErr};
+ghost use Rattle.std.specs.Prelude.{Option, ◌≡◌, ℕ, ◌+◌, ◌-◌, ◌*◌, ◌^◌, ◌<◌, ◌≤◌, ◌==◌, List, length, min, IfOk, OnErr, IfErr};
 ghost use Rattle.tantivy_stacker.specs.Arena.{Lies, bytes_at, IsAtLimit, page_bytes};
-ghost use Rattle.tantivy_stacker.specs.Maps.{IsHeldMap, HasEntry, Finds, MapPuts, MapStays, MapWrite, IsEmptyMap, IsTableSize, cut_key};
+ghost use Rattle.tantivy_stacker.specs.Maps.{IsHeldMap, HasEntry, Finds, MapPuts, MapStays, MapWrite, IsEmptyMap, IsTableSize, CanBeRead, cut_key};
 
-use crate::{Addr, ArenaError, ArenaItem, MemoryArena, SharedArenaHashMap};
+use crate::{Addr, ArenaError, ArenaItem, Iter, MemoryArena, SharedArenaHashMap};
 use std::alloc::{AllocError, Global};
 
 /// A map from bytes to values, with the arena that its entries stand in.
@@ -53,7 +53,11 @@ impl<V: ArenaItem> ArenaHashMap<V> {
     }
 
     /// Gives a key, cut to 65,535 bytes, the value that the updater makes of the value before.
-    pub fn mutate_or_create<F: FnOnce(Option<V>) -> V>(&mut self, key: &[u8], updater: F) -> Result<V, ArenaError>
+    pub fn mutate_or_create<F: FnOnce(Option<V>) -> V>(
+        &mut self,
+        key: &[u8],
+        updater: F,
+    ) -> Result<V, ArenaError>
         requires held { IsHeldMap V.SIZE self.old.memory_arena self.old.shared_arena_hashmap }
         requires callable { (before : Option V) → Finds V.SIZE V.item self.old.memory_arena self.old.shared_arena_hashmap (cut_key key.now) before → F.pre updater before }
         ensures write { MapWrite V.SIZE self.old.memory_arena self.new.memory_arena self.old.shared_arena_hashmap self.new.shared_arena_hashmap }
@@ -61,7 +65,27 @@ impl<V: ArenaItem> ArenaHashMap<V> {
         ensures called { IfOk result (λ v. (before : Option V) × Finds V.SIZE V.item self.old.memory_arena self.old.shared_arena_hashmap (cut_key key.now) before × F.post updater before v) }
         ensures same { OnErr result (MapStays V.SIZE V.item self.old.memory_arena self.new.memory_arena self.old.shared_arena_hashmap self.new.shared_arena_hashmap) }
     {
-        self.shared_arena_hashmap.mutate_or_create(key, &mut self.memory_arena, updater)
+        self.shared_arena_hashmap
+            .mutate_or_create(key, &mut self.memory_arena, updater)
+    }
+
+    /// Each key once, with the address of its value, in no stated order.
+    pub fn iter(&self) -> Iter<'_>
+        requires { IsHeldMap V.SIZE self.now.memory_arena self.now.shared_arena_hashmap }
+        ensures places { result.places.now ≡ self.now.shared_arena_hashmap.places }
+        ensures arena { result.memory_arena.now ≡ self.now.memory_arena }
+        ensures readable { CanBeRead result.memory_arena.now result.places.now }
+    {
+        self.shared_arena_hashmap.iter(&self.memory_arena)
+    }
+
+    /// The bytes of the table and of all pages, or the greatest `usize` where they are more.
+    pub fn mem_usage(&self) -> usize
+        ensures { result ≡ min (min (length self.now.shared_arena_hashmap.places * 8) (2 ^ 64 - 1) + length self.now.memory_arena.pages * page_bytes) (2 ^ 64 - 1) }
+    {
+        self.shared_arena_hashmap
+            .mem_usage()
+            .saturating_add(self.memory_arena.mem_usage())
     }
 
     pub fn len(&self) -> usize

@@ -24,5 +24,4 @@ pub fn map_laws<V: ArenaItem>()
     ensures none { EmptyMapHasNone V.SIZE V.item }
     ensures one { EntriesAreOne V.SIZE V.item }
     ensures others { OtherMapsStay V.SIZE V.item }
-{
-}
+{}

@@ -2,10 +2,11 @@
 ghost use Rattle.std.specs.Prelude.{Option, replicate, min, max, ◌⊎◌, List, Some, None, ◌≡◌, ◌≢◌, ℕ, ◌+◌, ◌-◌, ◌*◌, ◌%◌, ◌^◌, ◌<◌, ◌≤◌, ◌==◌, ◌↔◌, IsTrue, length, take, count_by, IfOk, OnOk, OnErr, IfErr};
 ghost use Rattle.tantivy_stacker.specs.Arena.{Lies, bytes_at, spent, IsFull, IsAtLimit};
 ghost use Rattle.tantivy_stacker.specs.Hashing.{hash_of};
-ghost use Rattle.tantivy_stacker.specs.Maps.{HasEntry, place, is_taken, IsTaken, Leads, key_length, key_at, IsHeldMap, Finds, EntryWritten, MapPuts, MapStays, MapWrite, AreUnique, Rehashes, IsFiledAnew, cut_key, IsTableSize, IsEmptyMap};
+ghost use Rattle.tantivy_stacker.specs.Maps.{HasEntry, place, is_taken, IsTaken, Leads, key_length, key_at, IsHeldMap, Finds, EntryWritten, MapPuts, MapStays, MapWrite, AreUnique, Rehashes, IsFiledAnew, cut_key, IsTableSize, IsEmptyMap, CanBeRead};
 ghost use Rattle.tantivy_stacker.specs.Probes.{ProbeIs, IsSearchable, IsAt, IsFreeFor, IsAbsent};
 
 use crate::hash::get_hash;
+use crate::map_iter::Iter;
 use crate::table::{KeyValue, free_place, home, next_bucket};
 use crate::{Addr, ArenaError, ArenaItem, MemoryArena, fast_short_slice_compare};
 use std::alloc::{AllocError, Global};
@@ -19,7 +20,7 @@ enum Probe {
 
 /// The key of the entry at an address.
 #[inline]
-fn entry_key(arena: &MemoryArena, addr: Addr) -> &[u8]
+pub(crate) fn entry_key(arena: &MemoryArena, addr: Addr) -> &[u8]
     requires { Lies arena.now addr (2 + key_length arena.now addr + 1) }
     ensures key { result.now ≡ key_at arena.now addr }
     ensures pages { length arena.now.pages ≤ 4096 }
@@ -30,7 +31,7 @@ fn entry_key(arena: &MemoryArena, addr: Addr) -> &[u8]
 
 /// The address of the value of the entry at an address.
 #[inline]
-fn value_addr(arena: &MemoryArena, addr: Addr) -> Addr
+pub(crate) fn value_addr(arena: &MemoryArena, addr: Addr) -> Addr
     requires { Lies arena.now addr (2 + key_length arena.now addr + 1) }
     ensures { result ≡ addr + (2 + key_length arena.now addr) }
 {
@@ -199,6 +200,16 @@ impl<V: ArenaItem> SharedArenaHashMap<V> {
             Probe::Taken(bucket) => Some(arena.read(value_addr(arena, self.table[bucket].addr()))),
             Probe::Free(_) => None,
         }
+    }
+
+    /// Each key once, with the address of its value, in no stated order.
+    pub fn iter<'a>(&'a self, memory_arena: &'a MemoryArena) -> Iter<'a>
+        requires { IsHeldMap V.SIZE memory_arena.now self.now }
+        ensures places { result.places.now ≡ self.now.places }
+        ensures arena { result.memory_arena.now ≡ memory_arena.now }
+        ensures readable { CanBeRead result.memory_arena.now result.places.now }
+    {
+        Iter::over(self.table.as_slice(), memory_arena)
     }
 
     pub fn len(&self) -> usize
