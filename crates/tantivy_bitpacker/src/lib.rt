@@ -12,3 +12,6 @@ pub use bitpacker::BitPacker;
 pub use bits::compute_num_bits;
 pub use bitunpacker::BitUnpacker;
 pub use filter_vec::{filter_vec_in_place, filter_vec_lanes, filter_vec_scalar};
+
+#[cfg(test)]
+mod tests;
