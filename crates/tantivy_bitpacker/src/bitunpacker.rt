@@ -142,7 +142,11 @@ impl BitUnpacker {
         }
         positions.resize((id_range.end - id_range.start) as usize, 0)?;
         self.get_batch_u32s(id_range.start, bytes, positions.as_mut_slice());
-        filter_vec_in_place(low as u32..=high.min(GREATEST_U32) as u32, id_range.start, positions);
+        filter_vec_in_place(
+            low as u32..=high.min(GREATEST_U32) as u32,
+            id_range.start,
+            positions,
+        );
         Ok(())
     }
 
