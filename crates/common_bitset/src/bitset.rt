@@ -1,11 +1,13 @@
 // A set of numbers below a bound.
-ghost use Rattle.std.specs.Prelude.{◌≡◌, ◌<◌, ◌≤◌, ◌↔◌, ℕ, IfOk, IfSome, IsNone, not};
+ghost use Rattle.std.specs.Prelude.{◌≡◌, ◌<◌, ◌≤◌, ◌↔◌, ℕ, IfOk, IfSome, IsNone, Err, not};
 ghost use Rattle.std.specs.FinSet as set;
 ghost use Rattle.common_bitset.specs.Numbers.{below};
 ghost use Rattle.std.specs.Int.{div_ceil};
-ghost use Rattle.common_bitset.specs.Subset.{Subset, IsProper, IsFirstNonEmpty, word_in};
+ghost use Rattle.owned_bytes.specs.Outside.{WritesAll, HasCause};
+ghost use Rattle.common_bitset.specs.Subset.{Subset, IsProper, IsFirstNonEmpty, word_in, bytes_of};
 
 use crate::{ReadOnlyBitSet, TinySet, words};
+use owned_bytes::{Sink, SinkError};
 use std::alloc::{AllocError, Global};
 use std::fmt;
 use std::marker::Model;
@@ -158,6 +160,22 @@ impl BitSet {
             len: max_value as usize,
             max_value,
         })
+    }
+
+    /// Appends the bound as a `u32` and the words of 64 numbers, all least byte first, and flushes the sink.
+    pub fn serialize<W: Sink>(&self, writer: &mut W) -> Result<(), SinkError>
+        ensures bytes { WritesAll (W.written writer.old) (W.written writer.new) result (bytes_of self.now) }
+        ensures cause { HasCause (W.faults writer.old) (W.faults writer.new) (result ≡ Err SinkError.Failed) }
+    {
+        match writer.write_all(&self.max_value.to_le_bytes()) {
+            Ok(()) => {}
+            Err(e) => return Err(e),
+        }
+        match words::write(self.tinysets.as_slice(), writer) {
+            Ok(()) => {}
+            Err(e) => return Err(e),
+        }
+        writer.flush()
     }
 
     pub fn clone(&self, alloc: Global) -> Result<BitSet, AllocError>

@@ -4,6 +4,8 @@
 mod bitset;
 mod iterated;
 mod read_only;
+#[cfg(test)]
+mod tests;
 mod tinyset;
 mod words;
 

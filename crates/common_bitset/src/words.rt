@@ -1,12 +1,14 @@
 // Set operations word by word. Word k of a list past its end is the empty set.
-ghost use Rattle.std.specs.Prelude.{◌≡◌, ◌<◌, ◌≤◌, ◌^◌, ◌+◌, ◌*◌, ◌/◌, ◌↔◌, ℕ, IsTrue, length, IsNone, IfSome};
+ghost use Rattle.std.specs.Prelude.{◌≡◌, ◌<◌, ◌≤◌, ◌^◌, ◌+◌, ◌*◌, ◌/◌, ◌↔◌, ℕ, IsTrue, length, IsNone, IfSome, Err};
 ghost use Rattle.std.specs.Int.{div_ceil};
 ghost use Rattle.std.specs.FinSet as set;
 ghost use Rattle.common_bitset.specs.Numbers.{below, IsBelow};
-ghost use Rattle.common_bitset.specs.Subset.{word_at, room, stored_word, AreWords, IsFirstNonEmpty};
+ghost use Rattle.common_bitset.specs.Subset.{word_at, room, stored_word, AreWords, IsFirstNonEmpty, words_bytes};
+ghost use Rattle.owned_bytes.specs.Outside.{WritesAll, HasCause};
 ghost use Rattle.common_bitset.specs.Counts.{total};
 
 use crate::TinySet;
+use owned_bytes::{Sink, SinkError};
 
 // Adds the other words' elements, and says how many there are.
 pub(crate) fn unite(left: &mut [TinySet], right: &[TinySet]) -> usize
@@ -140,4 +142,18 @@ pub(crate) fn first_non_empty(words: &[TinySet], from: u32) -> Option<u32>
         }
     }
     None
+}
+
+// Appends the words, each least byte first.
+pub(crate) fn write<W: Sink>(words: &[TinySet], writer: &mut W) -> Result<(), SinkError>
+    ensures bytes { WritesAll (W.written writer.old) (W.written writer.new) result (words_bytes (length words.now) (word_at words.now)) }
+    ensures cause { HasCause (W.faults writer.old) (W.faults writer.new) (result ≡ Err SinkError.Failed) }
+{
+    for k in 0..words.len() {
+        match words[k].serialize(writer) {
+            Ok(()) => {}
+            Err(e) => return Err(e),
+        }
+    }
+    Ok(())
 }

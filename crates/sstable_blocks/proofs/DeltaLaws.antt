@@ -10,10 +10,8 @@ use Rattle.owned_bytes.specs.Front.{◌>>=◌, provided, bytes_at, Piece, piece_
 use Rattle.owned_bytes.specs.Keys.{Key, shared, is_below, is_rising}
 use Rattle.owned_bytes.proofs.Pieces.{Shrinks, pieces-spelled, pieces-step, with_front, bind_some, some_is, piece_is, bytes_at-shrinks}
 use Rattle.sstable_blocks.specs.Vint.{vint, vint_at, groups_at}
-use Rattle.sstable_blocks.specs.Values.{Values}
-use Rattle.sstable_blocks.specs.Codec.{Codec}
 use Rattle.sstable_blocks.specs.Delta.{Delta, two_vints_at, keep_and_add_at, delta_at}
-use Rattle.sstable_blocks.specs.Block.{front_of_deltas, key_after, keys_after, keys_of, paired, block_of, delta, delta_between, deltas_between}
+use Rattle.sstable_blocks.specs.Block.{front_of_deltas, key_after, keys_after, delta, delta_between, deltas_between}
 use Rattle.sstable_blocks.proofs.RisingLaws.{both-true}
 use Rattle.sstable_blocks.proofs.VintLaws.{vint-again}
 
@@ -92,11 +90,6 @@ keys_after-between before (key ∷ keys) rise =
     ∙ ap (λ b. provided b >>= (λ _. provided (is_below before key) >>= (λ _. keys_after key (deltas_between key keys) >>= (λ others. Some (key ∷ others))))) (eq-eqb d.keep d.keep refl)
     ∙ ap (λ b. provided b >>= (λ _. keys_after key (deltas_between key keys) >>= (λ others. Some (key ∷ others)))) parts.0
     ∙ ap (λ o. o >>= (λ others. Some (key ∷ others))) (keys_after-between key keys parts.1)
-
--- the keys of a block whose first key keeps nothing
-pub keys_of-between : (key : Key) (keys : List Key) → is_rising (key ∷ keys) ≡ true → keys_of [] (deltas_between [] (key ∷ keys)) ≡ Some (key ∷ keys)
-unfolding keys_of deltas_between
-keys_of-between key keys rise = ap (λ o. o >>= (λ others. Some (key ∷ others))) (keys_after-between key keys rise)
 
 -- a number takes a byte or more
 groups_at-shrinks : (k : ℕ) (bytes : List ℕ) (n : ℕ) (rest : List ℕ) → groups_at k bytes ≡ Some (n, rest) → length rest < length bytes
@@ -185,17 +178,6 @@ deltas-again ds all =
     ∙ pieces-spelled front_of_deltas deltas-shrink delta Fits delta-piece ds all []
     ∙ ap (with_front ds) (pieces-step front_of_deltas deltas-shrink [])
     ∙ ap (λ xs. Some (xs, [])) (append-nil ds)
-
--- What a writer of a block puts out is the block of what was written: values that their codec reads again, and keys that rise.
-pub block-again : {V : Type 0} (codec : Codec V) (values : List ℕ) (found : Values V) (key : Key) (keys : List Key)
-    → ((rest : List ℕ) → codec.values_of (values ++ rest) ≡ Some (found, rest)) → is_rising (key ∷ keys) ≡ true → AllByRecursion Fits (deltas_between [] (key ∷ keys))
-    → block_of codec [] (values ++ flat_map delta (deltas_between [] (key ∷ keys))) ≡ paired (key ∷ keys) found
-unfolding block_of
-block-again codec values found key keys again rise all =
-    let ds = deltas_between [] (key ∷ keys) in
-    ap (λ o. o >>= (λ vs. pieces front_of_deltas vs.1 >>= (λ deltas. keys_of [] deltas.0 >>= (λ ks. paired ks vs.0)))) (again (flat_map delta ds))
-    ∙ ap (λ o. o >>= (λ deltas. keys_of [] deltas.0 >>= (λ ks. paired ks found))) (deltas-again ds all)
-    ∙ ap (λ o. o >>= (λ ks. paired ks found)) (keys_of-between key keys rise)
 
 abbrev as_delta : ℕ → List ℕ × List ℕ → Option (Delta × List ℕ)
 as_delta keep found = Some (record { keep = keep; suffix = found.0 }, found.1)

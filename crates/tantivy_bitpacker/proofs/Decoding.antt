@@ -1,5 +1,5 @@
 -- A range of packed numbers, decoded piece by piece into a list.
-use Rattle.std.proofs.Common.{◌≡◌, ℕ, ◌+◌, ◌-◌, ◌*◌, ◌/◌, ◌%◌, ◌<◌, ◌≤◌, List, [], ◌∷◌, ◌++◌, length, take, drop, set, ap, sym, ◌∙◌, arith, append_assoc, append-nil, get_or, refl, zero, suc}
+use Rattle.std.proofs.Common.{◌≡◌, ℕ, ◌+◌, ◌-◌, ◌*◌, ◌/◌, ◌%◌, ◌<◌, ◌≤◌, List, [], ◌∷◌, ◌++◌, length, take, drop, set, ap, sym, ◌∙◌, arith, append_assoc, append-nil, get_or, refl}
 use Rattle.std.proofs.lemmas.List.{take_more, take_more_set, take_rest, take_all}
 use Rattle.std.proofs.lemmas.Nat.{mul-le}
 use Rattle.tantivy_bitpacker.specs.Packed.{bits_from, unpacked_from}

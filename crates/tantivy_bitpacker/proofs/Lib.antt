@@ -10,3 +10,5 @@ pub mod Places
 pub mod LaneMasks
 pub mod LanePlaces
 pub mod Decoding
+pub mod Blocks
+pub mod ExtremesLaws

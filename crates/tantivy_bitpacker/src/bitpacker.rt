@@ -136,3 +136,11 @@ impl BitPacker {
         self.flush(output)
     }
 }
+
+impl Default for BitPacker {
+    ghost is_default = { λ packer. packer ≡ no_bits };
+
+    fn default() -> Self {
+        BitPacker::new()
+    }
+}

@@ -3,8 +3,16 @@
 
 mod classes;
 mod cursor;
+mod items;
 mod leaves;
+mod query;
 mod reading;
 mod starts;
 mod stop;
 mod words;
+
+pub use query::{parse_query, parse_to_ast};
+pub use query_tree::{
+    Clauses, Decimal, Delimiter, Error, Occur, ParseError, UserInputAst, UserInputBound,
+    UserInputLeaf, UserInputLiteral,
+};

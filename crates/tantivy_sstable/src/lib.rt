@@ -13,7 +13,7 @@ mod table;
 
 pub use dictionary::Dictionary;
 pub use errors::SstError;
-pub use index::{SSTableIndex, SSTableIndexV2, SSTableIndexV3Empty};
+pub use index::{BlockAddr, SSTableIndex, SSTableIndexV2, SSTableIndexV3Empty};
 pub use reader::Reader;
 pub use table::{RangeSSTable, SSTable};
 

@@ -14,3 +14,5 @@ pub mod Inserting
 pub mod Maps
 pub mod Rehashing
 pub mod Mutating
+pub mod MapFacts
+pub mod Iterating

@@ -16,14 +16,14 @@ use Rattle.tantivy_stacker.proofs.Maps.{areas, entry_apart, filter-cons_yes, fil
 use Rattle.tantivy_stacker.proofs.Tables.{taken-below}
 
 -- an empty table
-free_everywhere : (n j : ℕ) → IsTaken (replicate n (4294967295, 0)) j → ⊥
+pub free_everywhere : (n j : ℕ) → IsTaken (replicate n (4294967295, 0)) j → ⊥
 free_everywhere n j taken =
     elim (cases_lt j n) [
       | inl less ↦ taken (ap (λ (p : ℕ × ℕ). p.0) (get_or-replicate n j (4294967295, 0) (4294967295, 0) less))
       | inr more ↦ taken (ap (λ (p : ℕ × ℕ). p.0) (get_or_past (replicate n (4294967295, 0)) j (4294967295, 0) (rw (length-replicate {A = ℕ × ℕ} n (4294967295, 0)) more)))
     ]
 
-none_taken : (n : ℕ) → count_by is_taken (replicate n (4294967295, 0)) ≡ 0
+pub none_taken : (n : ℕ) → count_by is_taken (replicate n (4294967295, 0)) ≡ 0
 none_taken n = sum_by-replicate {X = ℕ × ℕ} (λ q. cond {A = ℕ} (is_taken q) 1 0) n (4294967295, 0) ∙ omega arith
 
 pub rehash_begin : (ps : List (ℕ × ℕ)) (n : ℕ) → Rehashes ps (replicate n (4294967295, 0)) 0

@@ -1,8 +1,9 @@
 -- Hash maps in an arena: a table of places, each free or taken by an entry, and the entries in the arena.
-use Rattle.std.specs.Prelude.{◌≡◌, ◌≢◌, ℕ, ◌+◌, ◌-◌, ◌*◌, ◌<◌, ◌≤◌, ◌==◌, ◌⊎◌, ⊤, Bool, not, nat_lt, List, [], ◌∷◌, ◌++◌, length, take, map, filter, count_by, slice_index_or, slice_set, bit_and, Option, Some, None, MatchOption, if◌then◌else◌}
+use Rattle.std.specs.Prelude.{◌≡◌, ◌≢◌, ℕ, ◌+◌, ◌-◌, ◌*◌, ◌^◌, ◌<◌, ◌≤◌, ◌==◌, ◌⊎◌, ⊤, Bool, not, nat_lt, List, [], ◌∷◌, ◌++◌, length, replicate, take, map, filter, count_by, slice_index_or, slice_set, bit_and, Option, Some, None, MatchOption, if◌then◌else◌}
 use Rattle.std.specs.Int.{w16, from_le_bytes}
 use Rattle.tantivy_stacker.specs.Arena.{Arena, Lies, bytes_at, top, spent, IsFull, Keeps}
-use Rattle.tantivy_stacker.specs.Lists.{KeepsBut}
+use Rattle.tantivy_stacker.specs.Lists.{KeepsBut, IsApart}
+use Rattle.std.specs.List.{All}
 use Rattle.tantivy_stacker.specs.Hashing.{hash_of}
 
 -- the key that a map takes: at most the first 65,535 bytes
@@ -131,3 +132,42 @@ pub record Rehashes (ps qs : List (ℕ × ℕ)) (upto : ℕ) : Type 0 where
   pub source : (j : ℕ) → IsTaken qs j → (i : ℕ) × (i < upto) × IsTaken ps i × (place ps i ≡ place qs j)
   pub unique : AreUnique qs
   pub counted : count_by is_taken qs ≡ count_by is_taken (take upto ps)
+
+-- A table for so many entries has the greatest power of two of places at most that number, and at least two.
+unfoldable pub IsTableSize : ℕ → ℕ → Type 0
+IsTableSize size n = (k : ℕ) × (n ≡ 2 ^ k) × (1 ≤ k) × ((n ≤ size) ⊎ (n ≡ 2)) × (size < 2 * n)
+
+-- a map of no entry
+unfoldable pub IsEmptyMap : Table → Type 0
+IsEmptyMap t = (t.places ≡ replicate (length t.places) (4294967295, 0)) × (t.count ≡ 0) × (2 ≤ length t.places)
+
+-- Any arena holds the empty map.
+abbrev pub EmptyMapIsHeld : ℕ → Type 0
+EmptyMapIsHeld size = (a : Arena) (t : Table) → IsEmptyMap t → IsHeldMap size a t
+
+-- The empty map has no entry.
+abbrev pub EmptyMapHasNone : {V : Type 0} → ℕ → (List ℕ → V) → Type 0
+EmptyMapHasNone size item = (a : Arena) (t : Table) (key : List ℕ) (v : _) → IsEmptyMap t → HasEntry size item a t key v → ⊥
+
+-- A map that is held has at most one value at a key.
+abbrev pub EntriesAreOne : {V : Type 0} → ℕ → (List ℕ → V) → Type 0
+EntriesAreOne size item = (a : Arena) (t : Table) (key : List ℕ) (v w : _) → IsHeldMap size a t → HasEntry size item a t key v → HasEntry size item a t key w → v ≡ w
+
+-- A map whose places are apart from those that changed is held as before, with its entries and in its places.
+abbrev pub OtherMapsStay : {V : Type 0} → ℕ → (List ℕ → V) → Type 0
+OtherMapsStay size item =
+    (old new : Arena) (changed : List (ℕ × ℕ)) (t : Table) →
+    KeepsBut old new changed → IsHeldMap size old t → All (λ r. IsApart r.0 r.1 changed) (map_places size old t) →
+    IsHeldMap size new t × MapStays size item old new t t × (map_places size new t ≡ map_places size old t)
+
+-- the entries of a table, in the order of its places: each key with the address of its value
+unfoldable pub entries_of : Arena → List (ℕ × ℕ) → List (List ℕ × ℕ)
+entries_of a ps = map (λ p. (key_at a p.0, value_place a p.0)) (filter is_taken ps)
+
+-- The entries of the taken places can be read.
+abbrev pub CanBeRead : Arena → List (ℕ × ℕ) → Type 0
+CanBeRead a ps = (i : ℕ) → IsTaken ps i → Lies a (place ps i).0 (2 + key_length a (place ps i).0 + 1)
+
+-- An item is the first entry, and the others are left; at the end none is left.
+abbrev pub GivesEntry : Arena → List (ℕ × ℕ) → Option (List ℕ × ℕ) → List (ℕ × ℕ) → Type 0
+GivesEntry a before found after = MatchOption found ((entries_of a before ≡ []) × (after ≡ [])) (λ e. entries_of a before ≡ e ∷ entries_of a after)

@@ -1,9 +1,11 @@
 // Byte lists in an arena.
 ghost use Rattle.std.specs.Prelude.{◌≡◌, ◌≢◌, ℕ, ◌+◌, ◌-◌, ◌^◌, ◌<◌, ◌≤◌, min, List, [], ◌++◌, length, take, drop, IfOk, OnOk, OnErr, IfErr};
+ghost use Rattle.common_wire.specs.Wire.{vint_bytes};
 ghost use Rattle.tantivy_stacker.specs.Arena.{Lies, bytes_at, spent, IsAtLimit};
 ghost use Rattle.tantivy_stacker.specs.Lists.{block_size as size_of_block, IsLaidOut, IsHeld, list_bytes, list_places, HasNewBlock, Extends, ListWrite, room, IsEmptyList};
 
 use crate::{Addr, ArenaError, ArenaItem, MemoryArena};
+use common_wire::serialize_vint_u32;
 use std::alloc::AllocError;
 
 /// The number of the block before the first, so that block number n has 2^n bytes, up to 2^15.
@@ -225,6 +227,24 @@ impl ExpUnrolledLinkedListWriter<'_> {
         ensures at_limit { IfErr result (λ e. e ≡ ArenaError.ArenaFull → (m : ℕ) → 32772 ≤ m → IsAtLimit self.new.arena.now m) }
     {
         self.eull.append(self.arena, buf)
+    }
+
+    /// Appends the bytes of `VInt`, as `extend_from_slice` does.
+    pub fn write_u32_vint(&mut self, val: u32) -> Result<(), ArenaError>
+        requires { IsHeld self.old.arena.now self.old.eull.now }
+        ensures list { self.new.eull.ghost_name ≡ self.old.eull.ghost_name }
+        ensures arena { self.new.arena.ghost_name ≡ self.old.arena.ghost_name }
+        ensures bytes { OnOk result (list_bytes self.new.arena.now self.new.eull.now ≡ list_bytes self.old.arena.now self.old.eull.now ++ vint_bytes val) }
+        ensures unchanged { OnErr result (self.new.eull.now ≡ self.old.eull.now) }
+        ensures same { OnErr result (list_bytes self.new.arena.now self.new.eull.now ≡ list_bytes self.old.arena.now self.old.eull.now) }
+        ensures write { ListWrite self.old.arena.now self.new.arena.now self.old.eull.now self.new.eull.now }
+        ensures space { spent self.new.arena.now + room (length (list_bytes self.old.arena.now self.old.eull.now)) ≤ spent self.old.arena.now + room (length (list_bytes self.old.arena.now self.old.eull.now) + length (vint_bytes val)) }
+        ensures needed { OnErr result (room (length (list_bytes self.old.arena.now self.old.eull.now)) < room (length (list_bytes self.old.arena.now self.old.eull.now) + length (vint_bytes val))) }
+        ensures at_limit { IfErr result (λ e. e ≡ ArenaError.ArenaFull → (m : ℕ) → 32772 ≤ m → IsAtLimit self.new.arena.now m) }
+    {
+        let mut buf = [0u8; 8];
+        let bytes = serialize_vint_u32(val, &mut buf);
+        self.extend_from_slice(bytes)
     }
 }
 

@@ -1,5 +1,8 @@
 // Laws of arenas and lists, for the proofs of callers.
+ghost use Rattle.tantivy_stacker.specs.Maps.{EmptyMapIsHeld, EmptyMapHasNone, EntriesAreOne, OtherMapsStay};
 ghost use Rattle.tantivy_stacker.specs.Lists.{EmptyIsHeld, OthersStay, PlacesLie, LiesBeforeTop, RoomIsBounded, RoomGrows};
+
+use crate::ArenaItem;
 
 /// What holds of the lists of an arena. It does nothing.
 pub fn list_laws()
@@ -13,4 +16,12 @@ pub fn list_laws()
 pub fn room_laws()
     ensures bound { RoomIsBounded }
     ensures grows { RoomGrows }
+{}
+
+/// What holds of maps of this type of values. It does nothing.
+pub fn map_laws<V: ArenaItem>()
+    ensures empty { EmptyMapIsHeld V.SIZE }
+    ensures none { EmptyMapHasNone V.SIZE V.item }
+    ensures one { EntriesAreOne V.SIZE V.item }
+    ensures others { OtherMapsStay V.SIZE V.item }
 {}

@@ -1,11 +1,12 @@
 // Hash maps whose entries stand in an arena that they share with others.
-ghost use Rattle.std.specs.Prelude.{Option, replicate, max, ◌⊎◌, List, Some, None, ◌≡◌, ◌≢◌, ℕ, ◌+◌, ◌-◌, ◌*◌, ◌%◌, ◌^◌, ◌<◌, ◌≤◌, ◌==◌, ◌↔◌, IsTrue, length, take, count_by, IfOk, OnOk, OnErr, IfErr};
+ghost use Rattle.std.specs.Prelude.{Option, replicate, min, max, ◌⊎◌, List, Some, None, ◌≡◌, ◌≢◌, ℕ, ◌+◌, ◌-◌, ◌*◌, ◌%◌, ◌^◌, ◌<◌, ◌≤◌, ◌==◌, ◌↔◌, IsTrue, length, take, count_by, IfOk, OnOk, OnErr, IfErr};
 ghost use Rattle.tantivy_stacker.specs.Arena.{Lies, bytes_at, spent, IsFull, IsAtLimit};
 ghost use Rattle.tantivy_stacker.specs.Hashing.{hash_of};
-ghost use Rattle.tantivy_stacker.specs.Maps.{HasEntry, place, is_taken, IsTaken, Leads, key_length, key_at, IsHeldMap, Finds, EntryWritten, MapPuts, MapStays, MapWrite, AreUnique, Rehashes, IsFiledAnew, cut_key};
+ghost use Rattle.tantivy_stacker.specs.Maps.{HasEntry, place, is_taken, IsTaken, Leads, key_length, key_at, IsHeldMap, Finds, EntryWritten, MapPuts, MapStays, MapWrite, AreUnique, Rehashes, IsFiledAnew, cut_key, IsTableSize, IsEmptyMap, CanBeRead};
 ghost use Rattle.tantivy_stacker.specs.Probes.{ProbeIs, IsSearchable, IsAt, IsFreeFor, IsAbsent};
 
 use crate::hash::get_hash;
+use crate::map_iter::Iter;
 use crate::table::{KeyValue, free_place, home, next_bucket};
 use crate::{Addr, ArenaError, ArenaItem, MemoryArena, fast_short_slice_compare};
 use std::alloc::{AllocError, Global};
@@ -19,7 +20,7 @@ enum Probe {
 
 /// The key of the entry at an address.
 #[inline]
-fn entry_key(arena: &MemoryArena, addr: Addr) -> &[u8]
+pub(crate) fn entry_key(arena: &MemoryArena, addr: Addr) -> &[u8]
     requires { Lies arena.now addr (2 + key_length arena.now addr + 1) }
     ensures key { result.now ≡ key_at arena.now addr }
     ensures pages { length arena.now.pages ≤ 4096 }
@@ -30,7 +31,7 @@ fn entry_key(arena: &MemoryArena, addr: Addr) -> &[u8]
 
 /// The address of the value of the entry at an address.
 #[inline]
-fn value_addr(arena: &MemoryArena, addr: Addr) -> Addr
+pub(crate) fn value_addr(arena: &MemoryArena, addr: Addr) -> Addr
     requires { Lies arena.now addr (2 + key_length arena.now addr + 1) }
     ensures { result ≡ addr + (2 + key_length arena.now addr) }
 {
@@ -141,7 +142,54 @@ impl<V> Model for SharedArenaHashMap<V> {
     ghost view = { λ m. record { places = m.table.items; count = m.len } };
 }
 
+/// The bytes of a table of so many places.
+pub fn compute_table_memory_size(capacity: usize) -> usize
+    requires { capacity * 8 < 2 ^ 64 }
+    ensures { result ≡ capacity * 8 }
+{
+    capacity * 8
+}
+
+/// The greatest power of two at most `size`, but at least 2.
+#[tactic(auto, unfolding(crate::specs::Maps::IsTableSize))]
+fn table_len(size: usize) -> usize
+    requires some { 1 ≤ size }
+    requires bound { size ≤ 2 ^ 31 }
+    ensures len { IsTableSize size result }
+    ensures at_least { 2 ≤ result }
+{
+    let mut len = 2;
+    while len <= size / 2 {
+        len *= 2;
+    }
+    len
+}
+
 impl<V: ArenaItem> SharedArenaHashMap<V> {
+    /// An empty map, whose table has the greatest power of two of places at most `table_size`, but at least two.
+    pub fn with_capacity(alloc: Global, table_size: usize) -> Result<Self, AllocError>
+        requires some { 1 ≤ table_size }
+        requires bound { table_size ≤ 2 ^ 31 }
+        ensures places { IfOk result (λ m. IsTableSize table_size (length m.places)) }
+        ensures empty { IfOk result IsEmptyMap }
+    {
+        let mut table = Vec::new(alloc);
+        table.resize(table_len(table_size), KeyValue::free())?;
+        Ok(SharedArenaHashMap {
+            table,
+            len: 0,
+            alloc,
+            value: PhantomData,
+        })
+    }
+
+    /// The bytes of the table, or the greatest `usize` where they are more.
+    pub fn mem_usage(&self) -> usize
+        ensures { result ≡ min (length self.now.places * 8) (2 ^ 64 - 1) }
+    {
+        self.table.len().saturating_mul(8)
+    }
+
     /// The value at a key.
     #[inline]
     pub fn get(&self, key: &[u8], arena: &MemoryArena) -> Option<V>
@@ -152,6 +200,16 @@ impl<V: ArenaItem> SharedArenaHashMap<V> {
             Probe::Taken(bucket) => Some(arena.read(value_addr(arena, self.table[bucket].addr()))),
             Probe::Free(_) => None,
         }
+    }
+
+    /// Each key once, with the address of its value, in no stated order.
+    pub fn iter<'a>(&'a self, memory_arena: &'a MemoryArena) -> Iter<'a>
+        requires { IsHeldMap V.SIZE memory_arena.now self.now }
+        ensures places { result.places.now ≡ self.now.places }
+        ensures arena { result.memory_arena.now ≡ memory_arena.now }
+        ensures readable { CanBeRead result.memory_arena.now result.places.now }
+    {
+        Iter::over(self.table.as_slice(), memory_arena)
     }
 
     pub fn len(&self) -> usize

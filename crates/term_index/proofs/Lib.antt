@@ -1,3 +1,4 @@
 pub mod Values
+pub mod Forms
 pub mod Prefixes
 pub mod Answered

@@ -10,7 +10,7 @@ use Rattle.term_search.specs.Expressions.{means}
 use Rattle.term_search.specs.Printed.{IsPrinted, Spells}
 use Rattle.term_index.specs.declared.outcome.Outcome.{Outcome}
 use Rattle.term_index.specs.declared.outcome.Outcome.TheVariants.{Done, Usage, NotYet, InputTooLong, BadInput, ArenaFull, InFault, OutFault, Memory}
-use Rattle.term_index.specs.Commands.{command_of, ask}
+use Rattle.term_index.specs.Commands.{IsCommand, ask}
 use Rattle.term_index.specs.Reading.{docs_of}
 use Rattle.term_index.specs.Lines.{lines}
 
@@ -24,7 +24,7 @@ size_limit = 3686400000
 
 -- the words ask for the documents that satisfy this expression, of which the query is the printed text
 abbrev pub Asks : List (List ℕ) → Expr → Type 0
-Asks words e = (field : List ℕ) × (query : List ℕ) × (command_of words ≡ Some (ask field query)) × IsPrinted query e
+Asks words e = (field : List ℕ) × (query : List ℕ) × IsCommand words (ask field query) × IsPrinted query e
 
 -- the bytes spell these documents, which an index can keep
 abbrev pub AreDocuments : List ℕ → List Doc → Type 0

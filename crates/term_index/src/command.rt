@@ -1,13 +1,14 @@
 // The top call.
-ghost use Rattle.std.specs.Prelude.{◌≡◌, ◌≢◌, ◌↔◌, ◌⊎◌, ◌<◌, ◌≤◌, length, IfSome, None, List};
+ghost use Rattle.std.specs.Prelude.{◌≡◌, ◌≢◌, ◌↔◌, ◌⊎◌, ◌<◌, ◌≤◌, length, IfSome, List};
 ghost use Rattle.std.specs.Io.KnownBytes.{IsAtEnd, Appends, Keeps};
 ghost use Rattle.owned_bytes.specs.Outside.{HasCause, AppendsPrefix};
 ghost use Rattle.term_documents.specs.declared.documents.Doc.{Doc};
 ghost use Rattle.term_documents.specs.declared.expr.Expr.{Expr};
-ghost use Rattle.term_index.specs.Commands.{command_of};
+ghost use Rattle.term_index.specs.Commands.{IsNoCommand};
 ghost use Rattle.term_index.specs.Asking.{Asks, AreDocuments, IsSearchable, answer, input_limit, size_limit, check_of, IsOfQuestion, TakenPast};
 ghost use Rattle.term_documents.specs.Documents.{documents_size};
 
+use crate::command_line::{Command, command_of};
 use crate::question::ask;
 use crate::{Outcome, Word};
 use owned_bytes::{FileHandle, Sink, Source};
@@ -37,7 +38,7 @@ pub fn run<S: Source, H: FileHandle, W: Sink, O: Sink>(
         → Keeps (O.written out.old) (O.written out.new) }
 
     // What each refusal says.
-    ensures usage { (result ≡ Outcome.Usage) ↔ (command_of words.now ≡ None) }
+    ensures usage { (result ≡ Outcome.Usage) ↔ IsNoCommand words.now }
     ensures not_yet { result ≡ Outcome.NotYet → (e : Expr) → Asks words.now e → ⊥ }
     ensures in_fault { HasCause (S.faults docs.old) (S.faults docs.new) (result ≡ Outcome.InFault) }
     ensures too_long { result ≡ Outcome.InputTooLong → TakenPast input_limit (S.taken docs.old) (S.taken docs.new) }
@@ -65,11 +66,11 @@ pub fn run<S: Source, H: FileHandle, W: Sink, O: Sink>(
 {
     let _ = file;
     let _ = store;
-    let [word, _field, query] = words else {
+    let Some(command) = command_of(words) else {
         return Outcome::Usage;
     };
-    if word.as_str() != "ask" {
-        return Outcome::Usage;
-    }
-    ask(alloc, query.as_str(), docs, out)
+    let Command::Ask { query, .. } = command else {
+        return Outcome::NotYet;
+    };
+    ask(alloc, query, docs, out)
 }

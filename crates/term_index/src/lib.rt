@@ -2,6 +2,7 @@
 #![tactic(auto)]
 
 mod command;
+mod command_line;
 mod input;
 mod lines;
 mod outcome;

@@ -154,3 +154,44 @@ fn lines(rt: HostRuntime) -> Result<(), Fail> {
     }
     Ok(())
 }
+
+/// The status of the words over no documents.
+fn status_of(alloc: Global, texts: &[&str]) -> Result<u8, AllocError> {
+    let words = words_of(alloc, texts)?;
+    let mut docs = SliceSource::new(b"[]");
+    let mut file = BytesFile::new(OwnedBytes::empty(alloc)?);
+    let mut store = VecSink::new(alloc);
+    let mut out = VecSink::new(alloc);
+    let outcome = run(
+        alloc,
+        words.as_slice(),
+        &mut docs,
+        &mut file,
+        &mut store,
+        &mut out,
+    );
+    Ok(outcome.status())
+}
+
+#[test]
+fn forms(rt: HostRuntime) -> Result<(), Fail> {
+    let alloc = rt.alloc();
+    // no command
+    assert_eq!(rt; status_of(alloc, &[])?, 2);
+    assert_eq!(rt; status_of(alloc, &["find", "f"])?, 2);
+    assert_eq!(rt; status_of(alloc, &["build", "x", "0"])?, 2);
+    assert_eq!(rt; status_of(alloc, &["build", "x", "4097"])?, 2);
+    assert_eq!(rt; status_of(alloc, &["build", "x", "01"])?, 2);
+    assert_eq!(rt; status_of(alloc, &["build", "", "1"])?, 2);
+    assert_eq!(rt; status_of(alloc, &["search", "x", "f"])?, 2);
+    assert_eq!(rt; status_of(alloc, &["gen", "18446744073709551616", "1"])?, 2);
+    assert_eq!(rt; status_of(alloc, &["gen", "1", "100001"])?, 2);
+    // commands of later
+    assert_eq!(rt; status_of(alloc, &["build", "x", "4096"])?, 9);
+    assert_eq!(rt; status_of(alloc, &["search", "x", "f", "a"])?, 9);
+    assert_eq!(rt; status_of(alloc, &["tree", ""])?, 9);
+    assert_eq!(rt; status_of(alloc, &["gen", "18446744073709551615", "0"])?, 9);
+    // a question
+    assert_eq!(rt; status_of(alloc, &["ask", "f", "f:\"a\""])?, 0);
+    Ok(())
+}

@@ -1,5 +1,5 @@
 use Rattle.std.proofs.Common.{arith}
-use Rattle.tantivy_bitpacker.proofs.Decoding.{Pieces-begin, Pieces-more, Pieces-end}
+use Rattle.tantivy_bitpacker.proofs.Decoding.{Pieces-begin, Pieces-more}
 use Rattle.tantivy_bitpacker.proofs.bitunpacker.BitUnpacker.get_batch_u32s.Goals as goal
 
 pub loop-done-init : goal.loop-done-init

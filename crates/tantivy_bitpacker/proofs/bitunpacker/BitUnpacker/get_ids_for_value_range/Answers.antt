@@ -1,8 +1,7 @@
-use Rattle.std.proofs.Common.{◌≡◌, ◌≤◌, ◌-◌, ◌^◌, length, min, ap, sym, ◌∙◌, refl, subst, arith}
-use Rattle.std.specs.Range.{range_inclusive_start, range_inclusive_end}
-use Rattle.tantivy_bitpacker.specs.Packed.{unpacked_from}
-use Rattle.tantivy_bitpacker.specs.Within.{places_within, ids_within}
-use Rattle.tantivy_bitpacker.proofs.Places.{places_within-narrow, places_within-above, ids_from_batch}
+use Rattle.std.proofs.Common.{◌≡◌, ◌≤◌, ◌-◌, length, ap, sym, ◌∙◌, arith}
+use Rattle.std.specs.Range.{range_inclusive_start}
+use Rattle.tantivy_bitpacker.specs.Within.{ids_within}
+use Rattle.tantivy_bitpacker.proofs.Places.{places_within-above, ids_from_batch}
 use Rattle.tantivy_bitpacker.proofs.bitunpacker.BitUnpacker.get_ids_for_value_range.Goals as goal
 
 pub returns-then-low-gt-GREATEST_U32 : goal.returns-then-low-gt-GREATEST_U32

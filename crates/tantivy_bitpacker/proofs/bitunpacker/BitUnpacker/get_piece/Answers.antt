@@ -1,4 +1,4 @@
-use Rattle.std.proofs.Common.{◌≡◌, ◌^◌, ◌<◌, length, arith, subst, sym}
+use Rattle.std.proofs.Common.{◌^◌, ◌<◌, arith, subst, sym}
 use Rattle.std.specs.Prelude.{slice_index}
 use Rattle.tantivy_bitpacker.proofs.Places.{unpacked_from-narrow}
 use Rattle.tantivy_bitpacker.proofs.bitunpacker.BitUnpacker.get_piece.Goals as goal
