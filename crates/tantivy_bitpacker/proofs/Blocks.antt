@@ -1,13 +1,13 @@
 -- Laws of blocks of packed numbers.
-use Rattle.std.proofs.Common.{◌≡◌, ℕ, zero, suc, ◌+◌, ◌-◌, ◌*◌, ◌/◌, ◌%◌, ◌^◌, ◌<◌, ◌≤◌, List, [], ◌∷◌, ◌++◌, length, take, drop, get_or, map, All, refl, ap, sym, ◌∙◌, subst, arith, append_assoc, append-nil, length-append, Option, Fits, w64}
+use Rattle.std.proofs.Common.{◌≡◌, ℕ, zero, suc, ◌+◌, ◌-◌, ◌*◌, ◌/◌, ◌%◌, ◌^◌, ◌<◌, ◌≤◌, List, [], ◌∷◌, ◌++◌, length, take, get_or, map, All, refl, ap, sym, ◌∙◌, subst, arith, append_assoc, append-nil, length-append, Option, Fits, w64}
 use Rattle.std.specs.List.{flat_map}
-use Rattle.std.proofs.lemmas.List.{get_or-map, length-map, get_or-append_right, get_or_append_left, map-append, take_more, take_all, flat_map_more}
-use Rattle.std.proofs.lemmas.List.Elements.{All-head, All-tail, All-nil, All-cons, All-get_or, All-append, All-push, All-from_get_or}
+use Rattle.std.proofs.lemmas.List.{get_or-map, length-map, get_or-append_right, get_or_append_left, map-append, take_more, flat_map_more}
+use Rattle.std.proofs.lemmas.List.Elements.{All-head, All-tail, All-nil, All-get_or, All-from_get_or}
 use Rattle.std.proofs.lemmas.Simd.{map-map}
 use Rattle.tantivy_bitpacker.specs.declared.blocked_bitpacker.PackedBlock.{PackedBlock}
 use Rattle.tantivy_bitpacker.specs.Packed.{bits_from, unpacked_from, packed, bytes_for, FitWidth, Bits, at_width, HasPacked}
 use Rattle.tantivy_bitpacker.proofs.Packing.{unpacked-packed, length-packed}
-use Rattle.tantivy_bitpacker.specs.Blocked.{block_numbers, IsBlock, IsFullBlock, all_numbers, AreBlocks}
+use Rattle.tantivy_bitpacker.specs.Blocked.{block_numbers, IsBlock, IsFullBlock, all_numbers}
 use Rattle.tantivy_bitpacker.proofs.Unpacking.{length-unpacked_from, get_or-unpacked_from}
 
 pub block_numbers-length : (block : PackedBlock) → length (block_numbers block) ≡ block.count
@@ -31,11 +31,11 @@ block_numbers-none block none = ap (λ n. map (λ value. block.base_value + valu
 
 pub empty_block : (block : PackedBlock) → block.count ≡ 0 → block.num_bits ≡ 0 → IsBlock block
 empty_block block none narrow = record {
-    allowed = λ wide. absurd (omega arith);
-    few = omega arith;
-    within = rw none (omega arith);
-    fit = subst (All (λ n. n < 2 ^ 64)) (sym (block_numbers-none block none)) (All-nil (λ n. n < 2 ^ 64))
-  }
+  allowed = λ wide. absurd (omega arith);
+  few = omega arith;
+  within = rw none (omega arith);
+  fit = subst (All (λ n. n < 2 ^ 64)) (sym (block_numbers-none block none)) (All-nil (λ n. n < 2 ^ 64));
+}
 
 -- ---- whole blocks
 
@@ -70,13 +70,13 @@ pub numbers-in_tail : (blocks : List PackedBlock) (tail : PackedBlock) (buffer :
     → get_or (block_numbers tail) (idx - 128 * length blocks) 0 ≡ get_or (all_numbers blocks tail buffer) idx 0
 numbers-in_tail blocks tail buffer idx full past below =
     sym (get_or-append_right (flat_map block_numbers blocks) (block_numbers tail ++ buffer) (128 * length blocks) idx 0 (full-length blocks full) (omega arith)
-        ∙ get_or_append_left (block_numbers tail) buffer 0 (idx - 128 * length blocks) (omega (arith, block_numbers-length tail)))
+    ∙ get_or_append_left (block_numbers tail) buffer 0 (idx - 128 * length blocks) (omega (arith, block_numbers-length tail)))
 
 pub numbers-in_buffer : (blocks : List PackedBlock) (tail : PackedBlock) (buffer : List ℕ) (idx : ℕ) → All IsFullBlock blocks → length blocks ≤ idx / 128 → tail.count ≤ idx - 128 * length blocks
     → get_or buffer (idx - 128 * length blocks - tail.count) 0 ≡ get_or (all_numbers blocks tail buffer) idx 0
 numbers-in_buffer blocks tail buffer idx full past behind =
     sym (get_or-append_right (flat_map block_numbers blocks) (block_numbers tail ++ buffer) (128 * length blocks) idx 0 (full-length blocks full) (omega arith)
-        ∙ get_or-append_right (block_numbers tail) buffer tail.count (idx - 128 * length blocks) 0 (block_numbers-length tail) behind)
+    ∙ get_or-append_right (block_numbers tail) buffer tail.count (idx - 128 * length blocks) 0 (block_numbers-length tail) behind)
 
 pub numbers-length : (blocks : List PackedBlock) (tail : PackedBlock) (buffer : List ℕ) → All IsFullBlock blocks → length (all_numbers blocks tail buffer) ≡ 128 * length blocks + tail.count + length buffer
 numbers-length blocks tail buffer full =
@@ -91,7 +91,7 @@ IsBlock-packed block numbers count few allowed above fit bytes =
     let offs : List ℕ = map (λ x. x - block.base_value) numbers in
     let long : length offs ≡ block.count = length-map numbers (λ x. x - block.base_value) ∙ sym count in
     let read : unpacked_from 0 block.count block.num_bits block.bytes.items ≡ offs =
-        ap (unpacked_from 0 block.count block.num_bits) (bytes ∙ sym (append-nil (packed block.num_bits offs))) ∙ ap (λ n. unpacked_from 0 n block.num_bits (packed block.num_bits offs ++ [])) (sym long) ∙ unpacked-packed block.num_bits offs [] fit in
+    ap (unpacked_from 0 block.count block.num_bits) (bytes ∙ sym (append-nil (packed block.num_bits offs))) ∙ ap (λ n. unpacked_from 0 n block.num_bits (packed block.num_bits offs ++ [])) (sym long) ∙ unpacked-packed block.num_bits offs [] fit in
     ap (map (λ value. block.base_value + value)) read ∙ map-map (λ value. block.base_value + value) (λ x. x - block.base_value) numbers ∙ put_back numbers above
   where
     put_back : (xs : List ℕ) → All (λ x. block.base_value ≤ x) xs → map (λ x. block.base_value + (x - block.base_value)) xs ≡ xs
@@ -110,20 +110,20 @@ pub pack_above-more : (base width i number : ℕ) (numbers : List ℕ) (held nex
     → HasPacked (at_width width (map (λ x. x - base) (take i numbers))) held before now → HasPacked (at_width width (map (λ x. x - base) (take (i + 1) numbers))) next before then
 pack_above-more base width i number numbers held next before now then below is step has =
     let pieces : at_width width (map (λ x. x - base) (take i numbers)) ++ (number - base, width) ∷ [] ≡ at_width width (map (λ x. x - base) (take (i + 1) numbers)) =
-        ap (λ n. at_width width (map (λ x. x - base) (take i numbers)) ++ (n - base, width) ∷ []) is
-        ∙ sym (ap (λ l. at_width width (map (λ x. x - base) l)) (take_more numbers i 0 below)
-            ∙ ap (at_width width) (map-append (λ x. x - base) (take i numbers) (get_or numbers i 0 ∷ [])) ∙ map-append (λ v. (v, width)) (map (λ x. x - base) (take i numbers)) ((get_or numbers i 0 - base) ∷ [])) in
+    ap (λ n. at_width width (map (λ x. x - base) (take i numbers)) ++ (n - base, width) ∷ []) is
+    ∙ sym (ap (λ l. at_width width (map (λ x. x - base) l)) (take_more numbers i 0 below)
+    ∙ ap (at_width width) (map-append (λ x. x - base) (take i numbers) (get_or numbers i 0 ∷ [])) ∙ map-append (λ v. (v, width)) (map (λ x. x - base) (take i numbers)) ((get_or numbers i 0 - base) ∷ [])) in
     subst (λ ps. HasPacked ps next before then) pieces (step has)
 
 pub block_from_numbers : (block : PackedBlock) (numbers : List ℕ) → block.count ≡ length numbers → length numbers ≤ 128 → (56 < block.num_bits → block.num_bits ≡ 64)
     → block.bytes.items ≡ packed block.num_bits (map (λ x. x - block.base_value) numbers) → block_numbers block ≡ numbers → ((k : ℕ) → Fits w64 (get_or numbers k 0)) → IsBlock block
 block_from_numbers block numbers count few allowed bytes same fits = record {
-    allowed = allowed;
-    few = omega arith;
-    within = let all : length (map (λ x. x - block.base_value) numbers) ≡ block.count = length-map numbers (λ x. x - block.base_value) ∙ sym count in
-        subst (λ n. n * block.num_bits ≤ 8 * length block.bytes.items) all (packed-within block.num_bits (map (λ x. x - block.base_value) numbers) block.bytes.items bytes);
-    fit = subst (All (λ n. n < 2 ^ 64)) (sym same) (All-from_get_or (λ n. n < 2 ^ 64) numbers 0 (λ k below. (fits k).fits))
-  }
+  allowed = allowed;
+  few = omega arith;
+  within = let all : length (map (λ x. x - block.base_value) numbers) ≡ block.count = length-map numbers (λ x. x - block.base_value) ∙ sym count in
+      subst (λ n. n * block.num_bits ≤ 8 * length block.bytes.items) all (packed-within block.num_bits (map (λ x. x - block.base_value) numbers) block.bytes.items bytes);
+  fit = subst (All (λ n. n < 2 ^ 64)) (sym same) (All-from_get_or (λ n. n < 2 ^ 64) numbers 0 (λ k below. (fits k).fits));
+}
 
 -- numbers that were not packed become a whole block, or the shorter one
 pub stored_block : (blocks : List PackedBlock) (block tail : PackedBlock) (buffer : List ℕ) → block_numbers block ≡ buffer → tail.count ≡ 0 → all_numbers (blocks ++ block ∷ []) tail [] ≡ all_numbers blocks tail buffer

@@ -1,5 +1,5 @@
 -- The least and the greatest of some items, one item at a time.
-use Rattle.std.proofs.Common.{◌≡◌, ℕ, zero, suc, ◌+◌, ◌<◌, List, [], ◌∷◌, ◌++◌, length, get_or, Bool, true, false, cond, Option, None, Some, All, Contains, refl, ap, sym, ◌∙◌, subst, arith, length-append, append_assoc, append-nil}
+use Rattle.std.proofs.Common.{◌≡◌, List, [], ◌∷◌, ◌++◌, length, get_or, Bool, true, false, cond, Option, None, Some, All, Contains, refl, sym, ◌∙◌, subst, arith, length-append, append_assoc, append-nil}
 use Rattle.std.specs.List.{fold}
 use Rattle.std.specs.Cmp.{IsTotalOrder}
 use Rattle.std.specs.declared.cmp.Ordering.{Ordering}
@@ -38,13 +38,13 @@ module _ {T : Type 0} (cmp : T → T → Ordering) (total : IsTotalOrder cmp) wh
   least_falls : (seen : List T) (a x : T) → All (λ y. is_lt (cmp y a) ≡ false) seen → is_lt (cmp x a) ≡ true → All (λ y. is_lt (cmp y x) ≡ false) seen
   least_falls seen a x above less = λ k d below.
       not_less (cmp (get_or seen k d) x) (λ e. let further : cmp (get_or seen k d) a ≡ Less = total.trans (get_or seen k d) x a e (is_less (cmp x a) less) in
-          let kept : is_lt (cmp (get_or seen k d) a) ≡ false = above k d below in cc)
+      let kept : is_lt (cmp (get_or seen k d) a) ≡ false = above k d below in cc)
 
   -- a new greatest
   greatest_rises : (seen : List T) (b x : T) → All (λ y. is_lt (cmp b y) ≡ false) seen → is_lt (cmp b x) ≡ true → All (λ y. is_lt (cmp x y) ≡ false) seen
   greatest_rises seen b x under less = λ k d below.
       not_less (cmp x (get_or seen k d)) (λ e. let further : cmp b (get_or seen k d) ≡ Less = total.trans b x (get_or seen k d) (is_less (cmp b x) less) e in
-          let kept : is_lt (cmp b (get_or seen k d)) ≡ false = under k d below in cc)
+      let kept : is_lt (cmp b (get_or seen k d)) ≡ false = under k d below in cc)
 
   least_step : (seen : List T) (a x : T) (test : Bool) → is_lt (cmp x a) ≡ test → Contains seen a → All (λ y. is_lt (cmp y a) ≡ false) seen
       → Contains (seen ++ x ∷ []) (cond test x a) × All (λ y. is_lt (cmp y (cond test x a)) ≡ false) (seen ++ x ∷ [])
@@ -59,7 +59,7 @@ module _ {T : Type 0} (cmp : T → T → Ordering) (total : IsTotalOrder cmp) wh
   extremes_step : (seen : List T) (found : Option (T × T)) (x : T) → AreExtremes cmp seen found → AreExtremes cmp (seen ++ x ∷ []) (Some (widened cmp found x))
   extremes_step seen None x none =
       subst (λ l. AreExtremes cmp (l ++ x ∷ []) (Some (x, x))) (sym none)
-          (contains_last [] x, contains_last [] x, All-push (λ y. is_lt (cmp y x) ≡ false) [] x (All-nil (λ y. is_lt (cmp y x) ≡ false)) (below_itself x), All-push (λ y. is_lt (cmp x y) ≡ false) [] x (All-nil (λ y. is_lt (cmp x y) ≡ false)) (below_itself x))
+      (contains_last [] x, contains_last [] x, All-push (λ y. is_lt (cmp y x) ≡ false) [] x (All-nil (λ y. is_lt (cmp y x) ≡ false)) (below_itself x), All-push (λ y. is_lt (cmp x y) ≡ false) [] x (All-nil (λ y. is_lt (cmp x y) ≡ false)) (below_itself x))
   extremes_step seen (Some found) x are =
       let low = least_step seen found.0 x (is_lt (cmp x found.0)) refl are.0 are.2 in
       let high = greatest_step seen found.1 x (is_lt (cmp found.1 x)) refl are.1 are.3 in
@@ -69,7 +69,7 @@ module _ {T : Type 0} (cmp : T → T → Ordering) (total : IsTotalOrder cmp) wh
   extremes_from [] seen found are = subst (λ l. AreExtremes cmp l found) (sym (append-nil seen)) are
   extremes_from (x ∷ items) seen found are =
       subst (λ l. AreExtremes cmp l (fold (λ f y. Some (widened cmp f y)) (Some (widened cmp found x)) items)) (append_assoc seen (x ∷ []) items)
-          (extremes_from items (seen ++ x ∷ []) (Some (widened cmp found x)) (extremes_step seen found x are))
+      (extremes_from items (seen ++ x ∷ []) (Some (widened cmp found x)) (extremes_step seen found x are))
 
   pub extremes_of : (items : List T) → AreExtremes cmp items (fold (λ f x. Some (widened cmp f x)) None items)
   extremes_of items = extremes_from items [] None refl

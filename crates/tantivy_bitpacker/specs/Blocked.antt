@@ -1,5 +1,5 @@
 -- Blocks of packed numbers, each with its least number taken off.
-use Rattle.std.specs.Prelude.{◌≡◌, ℕ, ◌+◌, ◌*◌, ◌^◌, ◌<◌, ◌≤◌, List, [], ◌∷◌, ◌++◌, map, length, All}
+use Rattle.std.specs.Prelude.{◌≡◌, ℕ, ◌+◌, ◌*◌, ◌^◌, ◌<◌, ◌≤◌, List, [], ◌++◌, map, length, All}
 use Rattle.std.specs.List.{flat_map}
 use Rattle.tantivy_bitpacker.specs.declared.blocked_bitpacker.PackedBlock.{PackedBlock}
 use Rattle.tantivy_bitpacker.specs.Packed.{unpacked_from}

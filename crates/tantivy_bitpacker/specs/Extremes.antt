@@ -1,5 +1,5 @@
 -- The least and the greatest of some items.
-use Rattle.std.specs.Prelude.{◌≡◌, Bool, false, List, [], Option, None, Some, All, Contains, if◌then◌else◌}
+use Rattle.std.specs.Prelude.{◌≡◌, false, List, [], Option, None, Some, All, Contains, if◌then◌else◌}
 use Rattle.std.specs.declared.cmp.Ordering.{Ordering}
 use Rattle.std.specs.Ordering.{is_lt}
 

@@ -35,8 +35,16 @@ fn widened<T: Copy + Ord>(found: Option<(T, T)>, val: T) -> (T, T)
     match found {
         None => (val, val),
         Some((least, greatest)) => (
-            if val.cmp(&least) == Ordering::Less { val } else { least },
-            if greatest.cmp(&val) == Ordering::Less { val } else { greatest },
+            if val.cmp(&least) == Ordering::Less {
+                val
+            } else {
+                least
+            },
+            if greatest.cmp(&val) == Ordering::Less {
+                val
+            } else {
+                greatest
+            },
         ),
     }
 }

@@ -60,7 +60,12 @@ fn extremes(numbers: &[u64]) -> (u64, u64)
 }
 
 // Packs each number with `base_value` taken off.
-fn pack_above(alloc: Global, numbers: &[u64], base_value: u64, num_bits: u8) -> Result<Vec<u8>, AllocError>
+fn pack_above(
+    alloc: Global,
+    numbers: &[u64],
+    base_value: u64,
+    num_bits: u8,
+) -> Result<Vec<u8>, AllocError>
     requires width { num_bits ≤ 64 }
     requires above { All (λ x. base_value ≤ x) numbers.now }
     requires fits { All (λ x. x - base_value < 2 ^ num_bits) numbers.now }
@@ -213,7 +218,12 @@ impl BlockedBitpacker {
     {
         reopen(self.alloc, &mut self.tail, &mut self.buffer)?;
         if self.buffer.len() == BLOCK_SIZE {
-            store(self.alloc, &mut self.blocks, &mut self.tail, &mut self.buffer)?;
+            store(
+                self.alloc,
+                &mut self.blocks,
+                &mut self.tail,
+                &mut self.buffer,
+            )?;
         }
         self.buffer.push(val)?;
         self.len += 1;
@@ -224,7 +234,12 @@ impl BlockedBitpacker {
     pub fn flush(&mut self) -> Result<(), AllocError>
         ensures { self.new ≡ self.old }
     {
-        store(self.alloc, &mut self.blocks, &mut self.tail, &mut self.buffer)
+        store(
+            self.alloc,
+            &mut self.blocks,
+            &mut self.tail,
+            &mut self.buffer,
+        )
     }
 
     /// The number that was added as the `idx`-th, counted from 0.
@@ -247,13 +262,20 @@ impl BlockedBitpacker {
     pub fn iter(&self) -> BlockedIter<'_>
         ensures { blocked_rest result ≡ self.now }
     {
-        BlockedIter { packer: self, next: 0 }
+        BlockedIter {
+            packer: self,
+            next: 0,
+        }
     }
 
     /// The memory that it takes, in bytes.
     pub fn mem_usage(&self) -> usize {
         let mut bytes = size_of::<BlockedBitpacker>();
-        bytes = bytes.saturating_add(self.blocks.capacity().saturating_mul(size_of::<PackedBlock>()));
+        bytes = bytes.saturating_add(
+            self.blocks
+                .capacity()
+                .saturating_mul(size_of::<PackedBlock>()),
+        );
         bytes = bytes.saturating_add(self.buffer.capacity().saturating_mul(size_of::<u64>()));
         for block in &self.blocks {
             bytes = bytes.saturating_add(block.bytes.capacity());

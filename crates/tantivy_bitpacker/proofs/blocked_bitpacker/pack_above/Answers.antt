@@ -1,6 +1,6 @@
-use Rattle.std.proofs.Common.{◌≡◌, ◌-◌, List, [], ℕ, Option, Some, map, take, ap, sym, ◌∙◌, subst, refl, arith}
+use Rattle.std.proofs.Common.{◌≡◌, ◌-◌, [], Some, map, take, ap, ◌∙◌, subst, refl, arith}
 use Rattle.std.proofs.lemmas.List.{take_all}
-use Rattle.tantivy_bitpacker.specs.Packed.{HasPacked, packed, packed_pieces, at_width}
+use Rattle.tantivy_bitpacker.specs.Packed.{HasPacked, packed_pieces, at_width}
 use Rattle.tantivy_bitpacker.proofs.Blocks.{pack_above-more}
 use Rattle.tantivy_bitpacker.proofs.blocked_bitpacker.pack_above.Goals as goal
 
@@ -10,7 +10,7 @@ loop-number-init c = subst (λ l. HasPacked [] c.new-packer.result (Some l) (Som
 pub loop-number-preserved : goal.loop-number-preserved
 loop-number-preserved c =
     pack_above-more c.args.base_value c.args.num_bits c.loop-number.number-index _ c.args.numbers.now c.loop-number.packer c.write.new.self (Some []) (Some c.loop-number.sink) (Some c.write.new.output) c.loop-number-test.true refl
-        (c.in-Ok.ensures.run _ (Some [])) c.loop-number.invariant
+    (c.in-Ok.ensures.run _ (Some [])) c.loop-number.invariant
 
 pub returns-in-Ok-close : goal.returns-in-Ok-close
 returns-in-Ok-close c =

@@ -1,4 +1,4 @@
-use Rattle.std.proofs.Common.{◌≡◌, ◌%◌, ◌/◌, ◌-◌, ◌*◌, ◌<◌, length, get_or, ap, ◌∙◌, arith}
+use Rattle.std.proofs.Common.{◌%◌, ◌-◌, ◌*◌, ◌<◌, length, get_or, ap, ◌∙◌, arith}
 use Rattle.std.proofs.lemmas.List.{get_or_read}
 use Rattle.tantivy_bitpacker.specs.Blocked.{block_numbers}
 use Rattle.tantivy_bitpacker.proofs.Blocks.{numbers-in_block, numbers-in_tail, numbers-in_buffer, numbers-length}

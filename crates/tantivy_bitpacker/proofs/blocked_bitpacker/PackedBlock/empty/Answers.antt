@@ -1,4 +1,4 @@
-use Rattle.std.proofs.Common.{refl, sym, subst}
+use Rattle.std.proofs.Common.{refl}
 use Rattle.tantivy_bitpacker.specs.Packed.{unpacked_from}
 use Rattle.tantivy_bitpacker.proofs.Blocks.{empty_block}
 use Rattle.tantivy_bitpacker.proofs.blocked_bitpacker.PackedBlock.empty.Goals as goal

@@ -1,4 +1,4 @@
-use Rattle.std.proofs.Common.{◌≡◌, ◌+◌, ◌*◌, ◌^◌, ◌<◌, Fits, ap, sym, ◌∙◌, subst, arith}
+use Rattle.std.proofs.Common.{◌≡◌, ◌+◌, ◌*◌, ◌^◌, ◌<◌, ap, sym, ◌∙◌, subst}
 use Rattle.tantivy_bitpacker.specs.Packed.{bits_from}
 use Rattle.tantivy_bitpacker.proofs.Blocks.{block_numbers-at, block_numbers-fit}
 use Rattle.tantivy_bitpacker.proofs.blocked_bitpacker.PackedBlock.get.Goals as goal
