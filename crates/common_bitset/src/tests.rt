@@ -25,7 +25,10 @@ fn set_in_bytes(rt: HostRuntime) -> Result<(), Fail> {
     let mut sink = VecSink::new(rt.alloc());
     set.serialize(&mut sink)?;
     assert_eq!(rt; sink.bytes(), SEVENTY.as_slice());
-    assert_eq!(rt; format!(in rt.alloc(); "{set:?}")?.as_str(), "BitSet { len: 2, max_value: 70 }");
+    assert_eq!(rt;
+        format!(in rt.alloc(); "{set:?}")?.as_str(),
+        "BitSet { len: 2, max_value: 70 }"
+    );
     Ok(())
 }
 
