@@ -35,7 +35,10 @@ fn value_at(alloc: Global, bytes: &[u8], key: &[u8]) -> Result<Option<Range<u64>
 fn num_terms(alloc: Global, bytes: &[u8]) -> Result<usize, SstError> {
     let bytes = OwnedBytes::new(alloc, bytes.to_vec(alloc)?)?;
     match Dictionary::<RangeSSTable>::from_bytes(alloc, bytes) {
-        Ok((dictionary, _)) => Ok(dictionary.num_terms()),
+        Ok((dictionary, file)) => {
+            drop(file);
+            Ok(dictionary.num_terms())
+        }
         Err(e) => Err(e),
     }
 }

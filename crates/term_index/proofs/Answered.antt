@@ -11,7 +11,7 @@ use Rattle.term_search.proofs.Conjunctions.{Spells-printed, spells_once, spelled
 use Rattle.term_index.specs.declared.outcome.Outcome.{Outcome}
 use Rattle.term_index.specs.declared.outcome.Outcome.TheVariants.{Done, Usage, NotYet, InputTooLong, BadInput, TooManyDocuments, BadField, KeyTooLong, ArenaFull, Query, TooDeep, UnsupportedSlop, UnsupportedRegex, Version, Corrupt, Compressed, InFault, StoreFault, ReadFault, OutFault, Memory}
 use Rattle.term_index.specs.Lines.{lines}
-use Rattle.term_index.specs.Asking.{AreDocuments, IsSearchable, HaveNoDocuments, AreTooLarge, numbers, answer, input_limit, size_limit, check_of, IsOfQuestion, Says}
+use Rattle.term_index.specs.Asking.{AreDocuments, IsSearchable, HaveNoDocuments, AreTooLarge, numbers, answer, input_limit, size_limit, check_of, IsOfQuestion, Says, TellsDocuments, IsAnsweredOrFault}
 
 weaker : {X : Type 0} (o : Option X) (P Q : X → Type 0) → ((x : X) → P x → Q x) → IfSome o P → IfSome o Q
 weaker None P Q step h = tt
@@ -25,6 +25,20 @@ spelled query e printed_is = subst (λ t. Spells t (conjuncts e)) (sym printed_i
 same_answer : (query : List ℕ) (e : Expr) (pairs : List Pair) (docs : List Doc) → IsPrinted query e → Spells query pairs → numbers docs pairs ≡ answer docs e
 same_answer query e pairs docs printed_is spells =
     ap (numbers docs) (spells_once query pairs (conjuncts e) spells (spelled query e printed_is)) ∙ ap lines (numbers-conjuncts e printed_is.0 docs)
+
+-- what is said of told bytes, beside the documents that they spell
+told : (left : Option (List ℕ)) (P : List ℕ → Type 0) → IfSome left P → TellsDocuments left → (bytes : List ℕ) × P bytes × (length bytes ≤ input_limit) × (docs : List Doc) × IsSearchable bytes docs
+told None P said tells = absurd tells
+told (Some bytes) P said tells = (bytes, said, tells.0, tells.1, tells.2)
+
+-- bytes spell one list of documents
+not_too_large : (bytes : List ℕ) (docs : List Doc) → IsSearchable bytes docs → AreTooLarge bytes → ⊥
+not_too_large bytes docs searchable large =
+    let same : docs ≡ large.0 = some_same docs large.0 (sym searchable.0.0 ∙ large.1.0) in
+    omega (arith, ap documents_size same, searchable.1, large.2)
+  where
+    some_same : (a b : List Doc) → Some a ≡ Some b → a ≡ b
+    some_same a b e = cc
 
 module _ (query : List ℕ) (left old new : Option (List ℕ)) where
   pub says_done : Says Done query left old new → (e : Expr) → IsPrinted query e → (found : List Doc) × IfSome left (λ bytes. IsSearchable bytes found) × Appends old new (answer found e)
@@ -124,3 +138,14 @@ module _ (query : List ℕ) (left old new : Option (List ℕ)) where
   says_size BadInput says late = absurd (omega arith)
   says_size ArenaFull says late = absurd (omega arith)
   says_size _ says late = absurd says
+
+  pub says_complete : (o : Outcome) → Says o query left old new → (e : Expr) → IsPrinted query e → TellsDocuments left → IsAnsweredOrFault o
+  says_complete Done says e printed_is tells = tt
+  says_complete OutFault says e printed_is tells = tt
+  says_complete Memory says e printed_is tells = tt
+  says_complete InFault says e printed_is tells = tt
+  says_complete NotYet says e printed_is tells = says_not_yet says e printed_is
+  says_complete InputTooLong says e printed_is tells = let t = told left (λ bytes. input_limit < length bytes) says.2 tells in absurd (omega (arith, t.1, t.2))
+  says_complete BadInput says e printed_is tells = let t = told left _ says.2 tells in t.1.1 t.3 t.4.0
+  says_complete ArenaFull says e printed_is tells = let t = told left _ says.2 tells in not_too_large t.0 t.3 t.4 t.1.1
+  says_complete _ says e printed_is tells = absurd says

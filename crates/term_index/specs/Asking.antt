@@ -1,5 +1,5 @@
 -- What a question asks, and what is answered.
-use Rattle.std.specs.Prelude.{◌≡◌, ◌≤◌, ◌<◌, ◌+◌, ◌-◌, ◌^◌, ◌⊎◌, ℕ, min, List, length, Option, Some, IfSome}
+use Rattle.std.specs.Prelude.{◌≡◌, ◌≤◌, ◌<◌, ◌+◌, ◌-◌, ◌^◌, ◌⊎◌, ℕ, min, List, length, Option, None, Some, IfSome}
 use Rattle.std.specs.Io.KnownBytes.{Appends, Keeps}
 use Rattle.owned_bytes.specs.Outside.{AppendsPrefix}
 use Rattle.term_documents.specs.declared.documents.Doc.{Doc}
@@ -66,6 +66,19 @@ IsOfQuestion OutFault = Unit {0}
 IsOfQuestion Done = Unit {0}
 IsOfQuestion Memory = Unit {0}
 IsOfQuestion _ = ⊥
+
+-- the source tells bytes that a command reads whole, and they spell documents that can be searched
+abbrev pub TellsDocuments : Option (List ℕ) → Type 0
+TellsDocuments None = ⊥
+TellsDocuments (Some bytes) = (length bytes ≤ input_limit) × (docs : List Doc) × IsSearchable bytes docs
+
+-- answered, but for a fault of the source or of the output, or want of memory
+abbrev pub IsAnsweredOrFault : Outcome → Type 0
+IsAnsweredOrFault Done = Unit {0}
+IsAnsweredOrFault InFault = Unit {0}
+IsAnsweredOrFault OutFault = Unit {0}
+IsAnsweredOrFault Memory = Unit {0}
+IsAnsweredOrFault _ = ⊥
 
 -- ---- one question, in the words of its query
 

@@ -5,7 +5,7 @@ ghost use Rattle.owned_bytes.specs.Outside.{HasCause, AppendsPrefix};
 ghost use Rattle.term_documents.specs.declared.documents.Doc.{Doc};
 ghost use Rattle.term_documents.specs.declared.expr.Expr.{Expr};
 ghost use Rattle.term_index.specs.Commands.{IsNoCommand};
-ghost use Rattle.term_index.specs.Asking.{Asks, AreDocuments, IsSearchable, answer, input_limit, size_limit, check_of, IsOfQuestion, TakenPast};
+ghost use Rattle.term_index.specs.Asking.{Asks, AreDocuments, IsSearchable, answer, input_limit, size_limit, check_of, IsOfQuestion, TellsDocuments, IsAnsweredOrFault, TakenPast};
 ghost use Rattle.term_documents.specs.Documents.{documents_size};
 
 use crate::command_line::{Command, command_of};
@@ -57,6 +57,9 @@ pub fn run<S: Source, H: FileHandle, W: Sink, O: Sink>(
         → IfSome (S.left docs.old) (λ bytes. (found : List Doc) × AreDocuments bytes found) }
     ensures size_passed { 5 < check_of result
         → IfSome (S.left docs.old) (λ bytes. (found : List Doc) × IsSearchable bytes found) }
+
+    // A question over told documents that can be searched is answered, but for a fault or want of memory.
+    ensures complete { (e : Expr) → Asks words.now e → TellsDocuments (S.left docs.old) → IsAnsweredOrFault result }
 
     // No count of the outside falls, and the file and the store stay as they were.
     ensures taken { S.taken docs.old ≤ S.taken docs.new }

@@ -10,7 +10,7 @@ use Rattle.term_index.specs.declared.outcome.Outcome.{Outcome}
 use Rattle.term_index.specs.Commands.{IsCommand, ask}
 use Rattle.term_index.specs.Shown.{shown}
 use Rattle.term_index.specs.Asking.{Asks, IsSearchable, answer, Says}
-use Rattle.term_index.proofs.Answered.{says_done, says_not_yet, says_out_fault, says_memory, says_query, Stopped}
+use Rattle.term_index.proofs.Answered.{says_done, says_not_yet, says_out_fault, says_memory, says_query, says_complete, Stopped}
 use Rattle.term_index.proofs.command.run.Goals as goal
 
 -- the query that the words ask is the one that was read
@@ -53,3 +53,12 @@ returns-clause-prefix g c = λ why.
       | inl fault ↦ says_out_fault query left old new c.args.alloc (subst (λ (o : Outcome). Says o query left old new) fault c.ask.ensures.says)
       | inr memory ↦ says_memory query left old new c.args.alloc (subst (λ (o : Outcome). Says o query left old new) memory c.ask.ensures.says)
     ])
+
+pub returns-clause-complete : goal.returns-clause-complete
+returns-clause-complete g c = λ e asks tells.
+    let read = subst (λ k. IsCommand c.args.words.now (shown k)) c.in-Ask.is c.in-Some.ensures in
+    let query : asks.1 ≡ c.in-Ask.query.now = same_query c.args.words.now asks.0 asks.1 c.in-Ask.field.now c.in-Ask.query.now asks.2 read in
+    says_complete c.in-Ask.query.now (g.S.Source.left c.args.docs.now) (g.O.Sink.written c.args.out.now) (g.O.Sink.written c.ask.new.out) c.ask.result c.ask.ensures.says e (subst (λ q. IsPrinted q e) query asks.3) tells
+
+pub returns-in_default-clause-complete : goal.returns-in_default-clause-complete
+returns-in_default-clause-complete g c = λ e asks tells. c.in_default.ensures (ask asks.0 asks.1) asks.2
