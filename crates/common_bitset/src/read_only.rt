@@ -1,5 +1,5 @@
 // Sets of numbers in bytes.
-ghost use Rattle.std.specs.Prelude.{◌≡◌, ◌/◌, ◌<◌, ◌≤◌, ◌↔◌, ℕ, length, IsTrue, IsOk, IfOk, IsOkAnd};
+ghost use Rattle.std.specs.Prelude.{◌≡◌, ◌*◌, ◌/◌, ◌<◌, ◌≤◌, ◌↔◌, ℕ, length, IsTrue, IsOk, IfOk, IsOkAnd};
 ghost use Rattle.std.specs.Int.{div_ceil};
 ghost use Rattle.std.specs.FinSet as set;
 ghost use Rattle.common_bitset.specs.Subset.{Subset, IsProper, FitsBitSet, stored_set, stored_word, bytes_of, word_at, word_in};
@@ -8,6 +8,7 @@ ghost use Rattle.common_bitset.specs.Counts.{total};
 ghost use Rattle.common_bitset.specs.Laws.Stored.{Stores};
 
 use crate::{BitSet, BitSetIter, TinySet, words};
+use common_wire::ByteCount;
 use owned_bytes::OwnedBytes;
 use std::alloc::{AllocError, Global};
 use std::marker::Model;
@@ -73,6 +74,13 @@ impl ReadOnlyBitSet {
         ensures proper { IsProper self.now }
     {
         self.max_value
+    }
+
+    /// The bytes of the words alone.
+    pub fn num_bytes(&self) -> ByteCount
+        ensures { result ≡ 8 * div_ceil self.now.max_value 64 }
+    {
+        ByteCount::from(self.words.len())
     }
 
     pub fn len(&self) -> usize
