@@ -3,6 +3,7 @@
 
 mod classes;
 mod cursor;
+mod equality;
 mod items;
 mod leaves;
 mod query;
@@ -11,7 +12,9 @@ mod starts;
 mod stop;
 mod words;
 
+pub use equality::{are_equal, equal_trees_hash_equally};
 pub use query::{parse_query, parse_to_ast};
+pub use query_json::to_json;
 pub use query_tree::{
     Clauses, Decimal, Delimiter, Error, Occur, ParseError, UserInputAst, UserInputBound,
     UserInputLeaf, UserInputLiteral,
