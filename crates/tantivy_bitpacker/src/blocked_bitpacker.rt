@@ -1,5 +1,6 @@
 // Numbers packed in blocks.
 ghost use Rattle.std.specs.Prelude.{◌≡◌, ◌+◌, ◌-◌, ◌^◌, ◌<◌, ◌≤◌, [], ◌∷◌, ◌++◌, length, map, slice_index, vec_len, IfOk, OnOk, OnErr, All};
+ghost use Rattle.std.specs.List.{flat_map};
 ghost use Rattle.tantivy_bitpacker.specs.Packed.{packed};
 ghost use Rattle.tantivy_bitpacker.specs.Blocked.{block_numbers, IsBlock, IsFullBlock, all_numbers};
 
@@ -114,6 +115,33 @@ fn unpack(alloc: Global, block: &PackedBlock) -> Result<Vec<u64>, AllocError>
         numbers.push(block.get(i))?;
     }
     Ok(numbers)
+}
+
+// A block with the same numbers in bytes of its own.
+fn copy_of(alloc: Global, block: &PackedBlock) -> Result<PackedBlock, AllocError>
+    ensures sound { IfOk result (λ copy. IsBlock block.now → IsBlock copy) }
+    ensures count { IfOk result (λ copy. copy.count ≡ block.now.count) }
+    ensures numbers { IfOk result (λ copy. block_numbers copy ≡ block_numbers block.now) }
+{
+    Ok(PackedBlock {
+        base_value: block.base_value,
+        num_bits: block.num_bits,
+        count: block.count,
+        bytes: Vec::from_slice(alloc, &block.bytes)?,
+    })
+}
+
+// Whole blocks with the same numbers.
+fn copies_of(alloc: Global, blocks: &[PackedBlock]) -> Result<Vec<PackedBlock>, AllocError>
+    requires { All IsFullBlock blocks.now }
+    ensures full { IfOk result (λ copies. All IsFullBlock copies.items) }
+    ensures numbers { IfOk result (λ copies. flat_map block_numbers copies.items ≡ flat_map block_numbers blocks.now) }
+{
+    let mut copies = Vec::with_capacity(alloc, blocks.len())?;
+    for block in blocks {
+        copies.push(copy_of(alloc, block)?)?;
+    }
+    Ok(copies)
 }
 
 // Takes the numbers of the shorter block back, so that more can follow them.
@@ -258,6 +286,20 @@ impl BlockedBitpacker {
             self.buffer[rest - self.tail.count]
         }
     }
+
+    /// A list with the same numbers, in memory of its own.
+    pub fn clone(&self, alloc: Global) -> Result<BlockedBitpacker, AllocError>
+        ensures { IfOk result (λ copy. copy ≡ self.now) }
+    {
+        Ok(BlockedBitpacker {
+            alloc,
+            blocks: copies_of(alloc, &self.blocks)?,
+            tail: copy_of(alloc, &self.tail)?,
+            buffer: Vec::from_slice(alloc, &self.buffer)?,
+            len: self.len,
+        })
+    }
+
     /// The numbers in the order in which they were added.
     pub fn iter(&self) -> BlockedIter<'_>
         ensures { blocked_rest result ≡ self.now }

@@ -1,6 +1,6 @@
 use crate::{
-    BitPacker, BitUnpacker, compute_num_bits, filter_vec_in_place, filter_vec_lanes,
-    filter_vec_scalar, plain,
+    BitPacker, BitUnpacker, BlockedBitpacker, compute_num_bits, filter_vec_in_place,
+    filter_vec_lanes, filter_vec_scalar, minmax, plain,
 };
 use owned_bytes::{MemSink, SinkError, VecSink};
 use std::alloc::Global;
@@ -209,12 +209,56 @@ fn the_filters_agree(rt: HostRuntime) -> Result<(), Fail> {
                 (9, 8),
                 (u32::MAX, u32::MAX),
             ] {
-                filters_agree(&rt, rt.alloc(), low, high, 7, &numbers[..count])?;
+                for offset in [0, 1, 7, 8] {
+                    filters_agree(&rt, rt.alloc(), low, high, offset, &numbers[..count])?;
+                }
             }
         }
     }
     let mut few = [3, 9, 4, 4, 0, 5, 7, 4, 3, 8].to_vec(rt.alloc())?;
     filter_vec_in_place(3..=5, 20, &mut few);
     assert_eq!(rt; few.as_slice(), [20, 22, 23, 25, 27, 28].as_slice());
+    Ok(())
+}
+
+#[test]
+fn the_least_and_the_greatest(rt: HostRuntime) {
+    assert_eq!(rt; minmax([4, 1, 9, 1, 3].iter().copied()), Some((1, 9)));
+    assert_eq!(rt; minmax([7].iter().copied()), Some((7, 7)));
+    let none: [i32; 0] = [];
+    assert_eq!(rt; minmax(none.iter().copied()), None);
+}
+
+// The number that is added as the `i`-th: squares, and some numbers of 64 bits between them.
+fn nth(i: u64) -> u64 {
+    if i % 50 == 49 {
+        u64::MAX - i
+    } else {
+        i.wrapping_mul(i)
+    }
+}
+
+#[test]
+fn a_flush_between_changes_no_number(rt: HostRuntime) -> Result<(), Fail> {
+    let mut packer = BlockedBitpacker::new(rt.alloc())?;
+    for i in 0..300 {
+        if i == 100 {
+            packer.flush()?;
+        }
+        assert!(rt; packer.len() < 300);
+        packer.add(nth(i))?;
+    }
+    let copy = packer.clone(rt.alloc())?;
+    packer.flush()?;
+    assert_eq!(rt; packer.len(), 300);
+    assert!(rt; packer.mem_usage() > 300);
+    let mut numbers = packer.iter();
+    for i in 0..300 {
+        assert_eq!(rt; numbers.next(), Some(nth(i)), "at {i}");
+        assert!(rt; copy.len() == 300);
+        assert_eq!(rt; copy.get(i as usize), nth(i), "at {i} of the copy");
+    }
+    assert_eq!(rt; numbers.next(), None);
+    assert_eq!(rt; numbers.next(), None);
     Ok(())
 }

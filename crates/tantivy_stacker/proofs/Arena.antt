@@ -1,13 +1,13 @@
 -- What handing out space and writing do to an arena.
-use Rattle.std.proofs.Common.{◌≡◌, ◌≢◌, ℕ, ◌+◌, ◌-◌, ◌*◌, ◌/◌, ◌%◌, ◌<◌, ◌≤◌, ◌⊎◌, inl, inr, List, [], ◌∷◌, ◌++◌, length, take, drop, get_or, set, replicate, refl, sym, ap, ◌∙◌, arith, rules, length-append, length-set, Bool, true, false, cond, leb, Result, Ok, Err, IfOk, OnOk}
+use Rattle.std.proofs.Common.{◌≡◌, ◌≢◌, ℕ, ◌+◌, ◌-◌, ◌*◌, ◌/◌, ◌%◌, ◌<◌, ◌≤◌, ◌⊎◌, inl, inr, List, [], ◌∷◌, ◌++◌, length, take, drop, get_or, set, replicate, refl, sym, ap, subst, ◌∙◌, arith, rules, length-append, length-drop, length-set, Bool, true, false, cond, leb, Result, Ok, Err, IfOk, OnOk}
 use Rattle.std.proofs.lemmas.List.{get_or-set_same, get_or-set_other, get_or_append_left, length-replicate, length_push, get_or_push, append-nil}
 use Rattle.std.proofs.lemmas.Bool.{cases_lt, cases_eq}
 use Rattle.std.proofs.lemmas.Nat.{div-mul-add, mod-mul-add}
 use Rattle.std.proofs.lemmas.List.Sums.{sum_by-set, sum_by-append}
 use Rattle.std.specs.List.{sum_by}
 use borrow.Author.Tests.{leb-true, leb-false}
-use Rattle.tantivy_stacker.specs.Arena.{Arena, page_bytes, page, last_page, Lies, bytes_at, top, spent, IsFull, has_room, next_place, with_space, HasNoSpace, put, put_on_page, Keeps, HandsOut, Writes, IsAtLimit}
-use Rattle.tantivy_stacker.proofs.Pages.{part-append, length-put, part-put_before, part-put_after, part-put_same}
+use Rattle.tantivy_stacker.specs.Arena.{Arena, page_bytes, page, last_page, Lies, bytes_at, top, spent, IsFull, has_room, next_place, with_space, with_slice, HasNoSpace, put, put_on_page, Keeps, HandsOut, Writes, IsAtLimit}
+use Rattle.tantivy_stacker.proofs.Pages.{part-append, length-put, part-put_before, part-put_after, part-put_same, take-put}
 
 -- each page is the old one with more bytes behind it
 Grows : Arena → Arena → Type 0
@@ -253,3 +253,22 @@ Lies-top a p n h =
       | inl e ↦ (let same : length (page a (p / page_bytes)) ≡ length (page a (last_page a)) = ap (λ i. length (page a i)) e in omega arith)
       | inr ne ↦ omega arith
     ]
+
+-- A write through a slice of n bytes.
+with_slice-put : (a : Arena) (p n : ℕ) (new : List ℕ) → Lies a p n → length new ≡ n → with_slice a p new ≡ put a p new
+unfolding with_slice put
+with_slice-put a p n new h same =
+    let out = h.handed_out in
+    let bytes = page a (p / page_bytes) in
+    let whole : take (length bytes) (put_on_page bytes (p % page_bytes) new) ≡ put_on_page bytes (p % page_bytes) new = take-put bytes new (p % page_bytes) (omega arith) in
+    ap (λ (xs : List ℕ). record { limit = a.limit; pages = set a.pages (p / page_bytes) xs }) whole
+
+pub Writes-slice : (a : Arena) (p n : ℕ) (new : List ℕ) → Lies a p n → length new ≡ n → Writes a (with_slice a p new) p new
+Writes-slice a p n new h same = rw (with_slice-put a p n new h same) (Writes-put a p new (subst (Lies a p) (sym same) h))
+
+-- The places up to the end of what was handed out on a page.
+pub Lies-rest : (a : Arena) (p n : ℕ) → Lies a p 0 → n ≡ length (drop (p % page_bytes) (page a (p / page_bytes))) → length (page a (p / page_bytes)) ≤ page_bytes → Lies a p n
+Lies-rest a p n h is bound =
+    let out = h.handed_out in
+    let len : n ≡ length (page a (p / page_bytes)) - p % page_bytes = is ∙ length-drop (p % page_bytes) (page a (p / page_bytes)) in
+    record { on_page = h.on_page; handed_out = omega arith; in_page = omega arith }

@@ -16,3 +16,4 @@ pub mod Rehashing
 pub mod Mutating
 pub mod MapFacts
 pub mod Iterating
+pub mod Listing

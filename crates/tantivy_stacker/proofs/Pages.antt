@@ -1,6 +1,6 @@
 -- Parts of a page after more bytes were handed out on it, or after a write.
 use Rattle.std.proofs.Common.{◌≡◌, ℕ, ◌+◌, ◌-◌, ◌<◌, ◌≤◌, List, [], ◌∷◌, ◌++◌, length, take, drop, get_or, refl, sym, ap, ◌∙◌, arith, rules, length-append, length-drop}
-use Rattle.std.proofs.lemmas.List.{take-append-le, drop-append-le, drop-take, take-take, drop-drop, take_at, drop_at, length-take, same_lists, places, append_assoc, length-take-le}
+use Rattle.std.proofs.lemmas.List.{take-append-le, drop-append-le, drop-take, take-take, drop-drop, take_at, drop_at, drop_all, take_all, append-nil, length-take, same_lists, places, append_assoc, length-take-le}
 use Rattle.tantivy_stacker.specs.Arena.{put_on_page}
 
 pub part-append : (o n : ℕ) (xs zs : List ℕ) → o + n ≤ length xs → take n (drop o (xs ++ zs)) ≡ take n (drop o xs)
@@ -39,3 +39,15 @@ pub part-put_same : (xs : List ℕ) (p : ℕ) (ys : List ℕ) → p + length ys 
 part-put_same xs p ys h =
     let p_is : length (take p xs) ≡ p = length-take-le p xs (omega arith) in
     ap (take (length ys)) (drop_at (take p xs) (ys ++ drop (p + length ys) xs) p p_is) ∙ take_at ys (drop (p + length ys) xs) (length ys) refl
+
+-- what is written over a part of a list of n, as far as the list goes
+pub refill-put : (xs new : List ℕ) (p n : ℕ) → length xs ≡ n → p ≤ length xs
+    → take n ((take p xs ++ (new ++ drop (length new) (drop p xs))) ++ drop (length (take p xs ++ (new ++ drop (length new) (drop p xs)))) xs) ≡ take (length xs) (put_on_page xs p new)
+refill-put xs new p n is below =
+    let whole : List ℕ = take p xs ++ (new ++ drop (length new) (drop p xs)) in
+    let long : length xs ≤ length whole = omega (arith, length-append (take p xs) (new ++ drop (length new) (drop p xs)), length-append new (drop (length new) (drop p xs)), length-drop (length new) (drop p xs), length-drop p xs, length-take-le p xs below) in
+    let none : drop (length whole) xs ≡ [] = drop_all (length whole) xs long in
+    ap (λ (zs : List ℕ). take n (whole ++ zs)) none ∙ (ap (take n) (append-nil whole) ∙ (ap (λ k. take k whole) (sym is) ∙ ap (λ (zs : List ℕ). take (length xs) (take p xs ++ (new ++ zs))) (drop-drop (length new) p xs)))
+
+pub take-put : (xs new : List ℕ) (p : ℕ) → p + length new ≤ length xs → take (length xs) (put_on_page xs p new) ≡ put_on_page xs p new
+take-put xs new p h = take_all (length xs) (put_on_page xs p new) (omega (arith, length-put xs p new h))

@@ -71,6 +71,15 @@ unfoldable pub put : Arena → ℕ → List ℕ → Arena
 put a p new =
     record { limit = a.limit; pages = slice_set a.pages (p / page_bytes) (put_on_page (page a (p / page_bytes)) (p % page_bytes) new) }
 
+-- the arena with these bytes from address p on, as far as what was handed out on the page goes
+unfoldable pub with_slice : Arena → ℕ → List ℕ → Arena
+with_slice a p new =
+    record {
+      limit = a.limit;
+      pages =
+          slice_set a.pages (p / page_bytes) (take (length (page a (p / page_bytes))) (put_on_page (page a (p / page_bytes)) (p % page_bytes) new));
+    }
+
 -- What was handed out stays so, and reads as before but for the places from `start` up to `end`.
 pub record Keeps (old new : Arena) (start end : ℕ) : Type 0 where
   pub limit : new.limit ≡ old.limit

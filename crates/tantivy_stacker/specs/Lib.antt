@@ -3,3 +3,5 @@ pub mod Lists
 pub mod Hashing
 pub mod Maps
 pub mod Probes
+pub mod PageLending
+pub mod Lending

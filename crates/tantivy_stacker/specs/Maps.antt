@@ -3,7 +3,7 @@ use Rattle.std.specs.Prelude.{◌≡◌, ◌≢◌, ℕ, ◌+◌, ◌-◌, ◌*�
 use Rattle.std.specs.Int.{w16, from_le_bytes}
 use Rattle.tantivy_stacker.specs.Arena.{Arena, Lies, bytes_at, top, spent, IsFull, Keeps}
 use Rattle.tantivy_stacker.specs.Lists.{KeepsBut, IsApart}
-use Rattle.std.specs.List.{All}
+use Rattle.std.specs.List.{All, Contains}
 use Rattle.tantivy_stacker.specs.Hashing.{hash_of}
 
 -- the key that a map takes: at most the first 65,535 bytes
@@ -163,6 +163,13 @@ OtherMapsStay size item =
 -- the entries of a table, in the order of its places: each key with the address of its value
 unfoldable pub entries_of : Arena → List (ℕ × ℕ) → List (List ℕ × ℕ)
 entries_of a ps = map (λ p. (key_at a p.0, value_place a p.0)) (filter is_taken ps)
+
+-- A list has each entry of a map once, in some order: its key, with the address of its value.
+pub record AreEntries {V : Type 0} (size : ℕ) (item : List ℕ → V) (a : Arena) (t : Table) (entries : List (List ℕ × ℕ)) : Type 0 where
+  pub listed : (key : List ℕ) (v : V) → HasEntry size item a t key v → (at : ℕ) × Contains entries (key, at) × (item (bytes_at a at size) ≡ v)
+  pub only : (key : List ℕ) (at : ℕ) → Contains entries (key, at) → Lies a at size × HasEntry size item a t key (item (bytes_at a at size))
+  pub once : (i j : ℕ) → i < length entries → j < length entries → (slice_index_or entries i ([], 0)).0 ≡ (slice_index_or entries j ([], 0)).0 → i ≡ j
+  pub counted : length entries ≡ t.count
 
 -- The entries of the taken places can be read.
 abbrev pub CanBeRead : Arena → List (ℕ × ℕ) → Type 0

@@ -1,7 +1,8 @@
 // Hash maps that own their arena.
 ghost use Rattle.std.specs.Prelude.{Option, ◌≡◌, ℕ, ◌+◌, ◌-◌, ◌*◌, ◌^◌, ◌<◌, ◌≤◌, ◌==◌, List, length, min, IfOk, OnErr, IfErr};
-ghost use Rattle.tantivy_stacker.specs.Arena.{Lies, bytes_at, IsAtLimit, page_bytes};
-ghost use Rattle.tantivy_stacker.specs.Maps.{IsHeldMap, HasEntry, Finds, MapPuts, MapStays, MapWrite, IsEmptyMap, IsTableSize, CanBeRead, cut_key};
+ghost use Rattle.tantivy_stacker.specs.Arena.{Lies, bytes_at, spent, IsFull, IsAtLimit, page_bytes};
+ghost use Rattle.tantivy_stacker.specs.Maps.{IsHeldMap, HasEntry, Finds, MapPuts, MapStays, MapWrite, IsEmptyMap, IsTableSize, CanBeRead, AreEntries, entries_of, cut_key};
+ghost use Rattle.tantivy_stacker.specs.Probes.{IsAbsent};
 
 use crate::{Addr, ArenaError, ArenaItem, Iter, MemoryArena, SharedArenaHashMap};
 use std::alloc::{AllocError, Global};
@@ -16,7 +17,9 @@ pub struct ArenaHashMap<V> {
 impl<V: ArenaItem> ArenaHashMap<V> {
     /// An empty map of four places.
     pub fn new(alloc: Global) -> Result<Self, AllocError>
-        ensures { IfOk result (λ m. IsEmptyMap m.shared_arena_hashmap) }
+        ensures empty { IfOk result (λ m. IsEmptyMap m.shared_arena_hashmap) }
+        ensures held { IfOk result (λ m. IsHeldMap V.SIZE m.memory_arena m.shared_arena_hashmap) }
+        ensures unspent { IfOk result (λ m. spent m.memory_arena ≡ 0) }
     {
         ArenaHashMap::with_capacity(alloc, 4)
     }
@@ -27,6 +30,8 @@ impl<V: ArenaItem> ArenaHashMap<V> {
         requires bound { table_size ≤ 2 ^ 31 }
         ensures empty { IfOk result (λ m. IsEmptyMap m.shared_arena_hashmap) }
         ensures places { IfOk result (λ m. IsTableSize table_size (length m.shared_arena_hashmap.places)) }
+        ensures held { IfOk result (λ m. IsHeldMap V.SIZE m.memory_arena m.shared_arena_hashmap) }
+        ensures unspent { IfOk result (λ m. spent m.memory_arena ≡ 0) }
     {
         let shared_arena_hashmap = SharedArenaHashMap::with_capacity(alloc, table_size)?;
         let memory_arena = MemoryArena::new(alloc)?;
@@ -64,6 +69,12 @@ impl<V: ArenaItem> ArenaHashMap<V> {
         ensures puts { IfOk result (λ v. MapPuts V.SIZE V.item self.old.memory_arena self.new.memory_arena self.old.shared_arena_hashmap self.new.shared_arena_hashmap (cut_key key.now) v) }
         ensures called { IfOk result (λ v. (before : Option V) × Finds V.SIZE V.item self.old.memory_arena self.old.shared_arena_hashmap (cut_key key.now) before × F.post updater before v) }
         ensures same { OnErr result (MapStays V.SIZE V.item self.old.memory_arena self.new.memory_arena self.old.shared_arena_hashmap self.new.shared_arena_hashmap) }
+        ensures arena { OnErr result (self.new.memory_arena ≡ self.old.memory_arena) }
+        ensures space { spent self.new.memory_arena ≤ spent self.old.memory_arena + (2 + length (cut_key key.now) + V.SIZE) }
+        ensures there { (IsAbsent self.old.memory_arena self.old.shared_arena_hashmap.places (cut_key key.now) → ⊥) → spent self.new.memory_arena ≡ spent self.old.memory_arena }
+        ensures full { (m : ℕ) → 2 + length (cut_key key.now) + V.SIZE ≤ m → IsFull self.old.memory_arena m → IsFull self.new.memory_arena m }
+        ensures absent { IfErr result (λ e. e ≡ ArenaError.ArenaFull → IsAbsent self.old.memory_arena self.old.shared_arena_hashmap.places (cut_key key.now)) }
+        ensures at_limit { IfErr result (λ e. e ≡ ArenaError.ArenaFull → (m : ℕ) → 2 + length (cut_key key.now) + V.SIZE ≤ m → IsAtLimit self.old.memory_arena m) }
     {
         self.shared_arena_hashmap
             .mutate_or_create(key, &mut self.memory_arena, updater)
@@ -75,6 +86,7 @@ impl<V: ArenaItem> ArenaHashMap<V> {
         ensures places { result.places.now ≡ self.now.shared_arena_hashmap.places }
         ensures arena { result.memory_arena.now ≡ self.now.memory_arena }
         ensures readable { CanBeRead result.memory_arena.now result.places.now }
+        ensures entries { AreEntries V.SIZE V.item self.now.memory_arena self.now.shared_arena_hashmap (entries_of result.memory_arena.now result.places.now) }
     {
         self.shared_arena_hashmap.iter(&self.memory_arena)
     }

@@ -1,9 +1,10 @@
 // The arena: pages of memory whose places are handed out one after the other.
 ghost use Rattle.std.specs.Prelude.{◌≡◌, ℕ, ◌+◌, ◌-◌, ◌*◌, ◌/◌, ◌%◌, ◌<◌, ◌≤◌, ◌==◌, ◌↔◌, List, [], ◌∷◌, ◌++◌, length, drop, IfOk, OnOk, OnErr, IfErr, IsTrue};
-ghost use Rattle.tantivy_stacker.specs.Arena.{page_bytes, page, last_page, Lies, bytes_at, top, spent, IsFull, next_place, with_space, HasNoSpace, put, Keeps, HandsOut, Writes, IsAtLimit};
+ghost use Rattle.std.specs.Borrow.{sem};
+ghost use Rattle.tantivy_stacker.specs.Arena.{page_bytes, page, last_page, Lies, bytes_at, top, spent, IsFull, next_place, with_space, with_slice, HasNoSpace, put, Keeps, HandsOut, Writes, IsAtLimit};
 
 use crate::page::{PAGE_SIZE, Page};
-use crate::{Addr, ArenaError, ArenaItem, load};
+use crate::{Addr, ArenaError, ArenaItem, fast_short_slice_copy, load};
 use std::alloc::{AllocError, Global};
 use std::marker::Model;
 
@@ -27,18 +28,25 @@ impl Model for MemoryArena {
 }
 
 impl MemoryArena {
+    ghost use Rattle.tantivy_stacker.specs.Lending.{LendsBytes};
+
     /// An arena of at most 4,096 pages, which has one.
     pub fn new(alloc: Global) -> Result<MemoryArena, AllocError>
-        ensures { IfOk result (λ a. a ≡ record { limit = 4096; pages = [] ∷ [] }) }
+        ensures empty { IfOk result (λ a. a ≡ record { limit = 4096; pages = [] ∷ [] }) }
+        ensures unspent { IfOk result (λ a. spent a ≡ 0) }
+        ensures full { IfOk result (λ a. (m : ℕ) → IsFull a m) }
     {
         MemoryArena::with_page_limit(alloc, 4096)
     }
 
     /// An arena of at most so many pages, which has one.
+    #[tactic(auto, unfolding(crate::specs::Arena::spent, crate::specs::Arena::IsFull))]
     pub fn with_page_limit(alloc: Global, pages: u32) -> Result<MemoryArena, AllocError>
         requires some { 1 ≤ pages }
         requires bound { pages ≤ 4096 }
-        ensures { IfOk result (λ a. a ≡ record { limit = pages; pages = [] ∷ [] }) }
+        ensures empty { IfOk result (λ a. a ≡ record { limit = pages; pages = [] ∷ [] }) }
+        ensures unspent { IfOk result (λ a. spent a ≡ 0) }
+        ensures full { IfOk result (λ a. (m : ℕ) → IsFull a m) }
     {
         let first = Page::new(alloc, 0)?;
         let mut list = Vec::new(alloc);
@@ -118,6 +126,36 @@ impl MemoryArena {
         self.pages[number / PAGE_SIZE].slice_from(number % PAGE_SIZE)
     }
 
+    /// The `len` bytes from an address on, for writing.
+    #[inline]
+    pub fn slice_mut(&mut self, addr: Addr, len: usize) -> &mut [u8]
+        requires { Lies self.old addr len }
+        ensures* writes_back { sem 𝓛 (LendsBytes self.entry addr result) }
+        ensures bytes { result.now ≡ bytes_at self.old addr len }
+        ensures len { length result.now ≡ len }
+        ensures pages { length self.old.pages ≤ 4096 }
+        ensures writes { (w : List ℕ) → length w ≡ len → Writes self.old (with_slice self.old addr w) addr w }
+    {
+        let number = addr.number() as usize;
+        let page = &mut self.pages[number / PAGE_SIZE];
+        page.slice_mut(number % PAGE_SIZE, len)
+    }
+
+    /// The handed-out bytes of the address's page from the address on, for writing.
+    #[inline]
+    pub fn slice_from_mut(&mut self, addr: Addr) -> &mut [u8]
+        requires { Lies self.old addr 0 }
+        ensures* writes_back { sem 𝓛 (LendsBytes self.entry addr result) }
+        ensures bytes { result.now ≡ drop (addr % page_bytes) (page self.old (addr / page_bytes)) }
+        ensures writes { (w : List ℕ) → length w ≡ length result.now → Writes self.old (with_slice self.old addr w) addr w }
+    {
+        let number = addr.number() as usize;
+        let page = &mut self.pages[number / PAGE_SIZE];
+        let place = number % PAGE_SIZE;
+        let len = page.len() - place;
+        page.slice_mut(place, len)
+    }
+
     /// Writes bytes from an address on.
     #[inline]
     pub(crate) fn write(&mut self, addr: Addr, new: &[u8])
@@ -125,7 +163,7 @@ impl MemoryArena {
         ensures written { Writes self.old self.new addr new.now }
         ensures pages { length self.old.pages ≤ 4096 }
     {
-        self.write_bytes(addr, new)
+        fast_short_slice_copy(new, self.slice_mut(addr, new.len()));
     }
 
     /// The item whose bytes stand from an address on.
@@ -146,30 +184,7 @@ impl MemoryArena {
         ensures size { length (Item.bytes val) ≡ Item.SIZE }
         ensures again { Item.item (Item.bytes val) ≡ val }
     {
-        self.store_item(addr, val);
-    }
-
-    #[inline]
-    #[tactic(auto, unfolding(crate::specs::Arena::put))]
-    fn store_item<Item: ArenaItem>(&mut self, addr: Addr, val: Item)
-        requires { Lies self.old addr Item.SIZE }
-        ensures written { self.new ≡ put self.old addr (Item.bytes val) }
-        ensures size { length (Item.bytes val) ≡ Item.SIZE }
-        ensures again { Item.item (Item.bytes val) ≡ val }
-    {
-        let number = addr.number() as usize;
-        self.pages[number / PAGE_SIZE].store(number % PAGE_SIZE, val);
-    }
-
-    #[inline]
-    #[tactic(auto, unfolding(crate::specs::Arena::put))]
-    fn write_bytes(&mut self, addr: Addr, new: &[u8])
-        requires { Lies self.old addr (length new.now) }
-        ensures written { self.new ≡ put self.old addr new.now }
-        ensures pages { length self.old.pages ≤ 4096 }
-    {
-        let number = addr.number() as usize;
-        self.pages[number / PAGE_SIZE].write(number % PAGE_SIZE, new);
+        val.to_bytes(self.slice_mut(addr, Item::SIZE));
     }
 
     /// 2^20 for each page but the last, and the bytes that were handed out on the last.

@@ -1,8 +1,8 @@
 // The pages of an arena.
 ghost use Rattle.std.specs.Prelude.{◌≡◌, ℕ, ◌+◌, ◌-◌, ◌≤◌, List, ◌++◌, length, take, drop, replicate, slice_range, OnOk, OnErr, IfOk};
+ghost use Rattle.std.specs.Borrow.{sem};
 ghost use Rattle.tantivy_stacker.specs.Arena.{page_bytes, put_on_page};
 
-use crate::{ArenaItem, fast_short_slice_copy};
 use std::alloc::{AllocError, Global};
 use std::marker::Model;
 
@@ -28,6 +28,8 @@ impl Model for Page {
 }
 
 impl Page {
+    ghost use Rattle.tantivy_stacker.specs.PageLending.{LendsPart};
+
     pub(crate) fn new(alloc: Global, len: usize) -> Result<Page, AllocError>
         requires { len ≤ page_bytes }
         ensures { IfOk result (λ p. p ≡ replicate len 0) }
@@ -72,24 +74,14 @@ impl Page {
         &bytes[place..]
     }
 
-    pub(crate) fn write(&mut self, place: usize, new: &[u8])
-        requires { place + length new.now ≤ length self.old }
-        ensures { self.new ≡ put_on_page self.old place new.now }
+    /// The `len` handed-out bytes from a place on, for writing.
+    #[inline]
+    pub(crate) fn slice_mut(&mut self, place: usize, len: usize) -> &mut [u8]
+        requires { place + len ≤ length self.old }
+        ensures* writes_back { sem 𝓛 (LendsPart self.entry place result) }
+        ensures bytes { result.now ≡ take len (drop place self.old) }
+        ensures len { length result.now ≡ len }
     {
-        let bytes = self.bytes.as_mut_slice();
-        let end = place + new.len();
-        fast_short_slice_copy(new, &mut bytes[place..end]);
-    }
-
-    /// Writes an item's bytes at a place.
-    pub(crate) fn store<Item: ArenaItem>(&mut self, place: usize, val: Item)
-        requires { place + Item.SIZE ≤ length self.old }
-        ensures written { self.new ≡ put_on_page self.old place (Item.bytes val) }
-        ensures size { length (Item.bytes val) ≡ Item.SIZE }
-        ensures again { Item.item (Item.bytes val) ≡ val }
-    {
-        let bytes = self.bytes.as_mut_slice();
-        let end = place + Item::SIZE;
-        val.to_bytes(&mut bytes[place..end]);
+        self.bytes.slice_mut(place..place + len)
     }
 }

@@ -1,8 +1,8 @@
 // Hash maps whose entries stand in an arena that they share with others.
 ghost use Rattle.std.specs.Prelude.{Option, replicate, min, max, ◌⊎◌, List, Some, None, ◌≡◌, ◌≢◌, ℕ, ◌+◌, ◌-◌, ◌*◌, ◌%◌, ◌^◌, ◌<◌, ◌≤◌, ◌==◌, ◌↔◌, IsTrue, length, take, count_by, IfOk, OnOk, OnErr, IfErr};
-ghost use Rattle.tantivy_stacker.specs.Arena.{Lies, bytes_at, spent, IsFull, IsAtLimit};
+ghost use Rattle.tantivy_stacker.specs.Arena.{Arena, Lies, bytes_at, spent, IsFull, IsAtLimit};
 ghost use Rattle.tantivy_stacker.specs.Hashing.{hash_of};
-ghost use Rattle.tantivy_stacker.specs.Maps.{HasEntry, place, is_taken, IsTaken, Leads, key_length, key_at, IsHeldMap, Finds, EntryWritten, MapPuts, MapStays, MapWrite, AreUnique, Rehashes, IsFiledAnew, cut_key, IsTableSize, IsEmptyMap, CanBeRead};
+ghost use Rattle.tantivy_stacker.specs.Maps.{HasEntry, place, is_taken, IsTaken, Leads, key_length, key_at, IsHeldMap, Finds, EntryWritten, MapPuts, MapStays, MapWrite, AreUnique, Rehashes, IsFiledAnew, cut_key, IsTableSize, IsEmptyMap, CanBeRead, AreEntries, entries_of};
 ghost use Rattle.tantivy_stacker.specs.Probes.{ProbeIs, IsSearchable, IsAt, IsFreeFor, IsAbsent};
 
 use crate::hash::get_hash;
@@ -172,6 +172,7 @@ impl<V: ArenaItem> SharedArenaHashMap<V> {
         requires bound { table_size ≤ 2 ^ 31 }
         ensures places { IfOk result (λ m. IsTableSize table_size (length m.places)) }
         ensures empty { IfOk result IsEmptyMap }
+        ensures held { IfOk result (λ m. (a : Arena) → IsHeldMap V.SIZE a m) }
     {
         let mut table = Vec::new(alloc);
         table.resize(table_len(table_size), KeyValue::free())?;
@@ -208,6 +209,7 @@ impl<V: ArenaItem> SharedArenaHashMap<V> {
         ensures places { result.places.now ≡ self.now.places }
         ensures arena { result.memory_arena.now ≡ memory_arena.now }
         ensures readable { CanBeRead result.memory_arena.now result.places.now }
+        ensures entries { AreEntries V.SIZE V.item memory_arena.now self.now (entries_of result.memory_arena.now result.places.now) }
     {
         Iter::over(self.table.as_slice(), memory_arena)
     }
