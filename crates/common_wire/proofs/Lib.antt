@@ -3,3 +3,4 @@ pub mod VintLaws
 pub mod NumbersRead
 pub mod PairsRead
 pub mod ListsRead
+pub mod ShortVints

@@ -6,9 +6,9 @@ use Rattle.std.proofs.Math.Nat.{mul-le-mul_left}
 use Rattle.std.proofs.Math.ListN.{length-set}
 use Rattle.std.proofs.lemmas.List.{take_more_set}
 use Rattle.common_wire.specs.Taking.{Value, Cut, Wrong, continued, ◌>>=◌, give, only_if, byte}
-use Rattle.common_wire.specs.Wire.{groups, group_bytes, vint, vint_bytes, vint128, vint128_bytes}
+use Rattle.common_wire.specs.Wire.{groups, group_bytes, vint, vint_bytes, vint32, vint128, vint128_bytes}
 use Rattle.common_wire.specs.Serialized.{IsTaking, limit}
-use Rattle.common_wire.specs.TakingLaws.{IsTaking-give, IsTaking-refuse, IsTaking-byte, IsTaking-then, IsTaking-if, IsTaking-only_if}
+use Rattle.common_wire.specs.TakingLaws.{IsTaking-give, IsTaking-refuse, IsTaking-byte, IsTaking-then, IsTaking-if, IsTaking-only_if, continued_value}
 
 pub group_bytes-last : (k n : ℕ) → n < 128 → group_bytes (suc k) n ≡ (n + 128) ∷ []
 unfolding group_bytes
@@ -92,6 +92,41 @@ group_bytes-room (suc k) (suc m) n fits fits2 some some2 = by_size (nat_lt n 128
     by_size false e high =
         let large : 128 ≤ n = ltb-false n 128 e in
         group_bytes-more k n large ∙ ap (λ l. n % 128 ∷ l) (high (omega arith) (omega arith) (positive k large fits) (positive m large fits2)) ∙ sym (group_bytes-more m n large)
+
+-- what was written as a `VInt` is taken again in five bytes, whatever follows
+pub vint32-again : (n : ℕ) (rest : List ℕ) → n < 2 ^ 32 → vint32 (vint_bytes n ++ rest) ≡ Value n rest
+unfolding vint32 vint_bytes
+vint32-again n rest h =
+    ap (λ bytes. vint32 (bytes ++ rest)) (group_bytes-room 10 5 n (omega arith) (omega arith) (omega arith) (omega arith))
+    ∙ ap (λ taken. continued taken (λ m. only_if (nat_lt m (2 ^ 32)) (give m))) (groups-again 4 n rest (omega arith))
+    ∙ ap (λ (b : Bool). only_if b (give n) rest) (lt-ltb n (2 ^ 32) h)
+
+-- more groups may follow, where none has to
+groups-longer : (k m n : ℕ) (bytes rest : List ℕ) → k ≤ m → groups k bytes ≡ Value n rest → groups m bytes ≡ Value n rest
+groups-longer zero m n bytes rest room e = let none = sym (groups-none bytes) ∙ e in absurd cc
+groups-longer (suc k) zero n bytes rest room e = absurd (omega arith)
+groups-longer (suc k) (suc m) n [] rest room e = let none = sym (groups-cut k) ∙ e in absurd cc
+groups-longer (suc k) (suc m) n (b ∷ bytes) rest room e = by_size (nat_lt b 128) refl (λ high middle first. groups-longer k m high bytes middle (omega arith) first)
+  where
+    by_size : (t : Bool) → nat_lt b 128 ≡ t → ((high : ℕ) (middle : List ℕ) → groups k bytes ≡ Value high middle → groups m bytes ≡ Value high middle) → groups (suc m) (b ∷ bytes) ≡ Value n rest
+    by_size true is more =
+        let small : b < 128 = ltb-true b 128 is in
+        let (high, middle, first, second) = continued_value (groups k bytes) (λ high. give (b + 128 * high)) n rest (sym (groups-more k b bytes small) ∙ e) in
+        groups-more m b bytes small ∙ ap (λ taken. continued taken (λ others. give (b + 128 * others))) (more high middle first) ∙ second
+    by_size false is more =
+        let large : 128 ≤ b = ltb-false b 128 is in
+        groups-last m b bytes large ∙ sym (groups-last k b bytes large) ∙ e
+
+-- a number that five bytes spell is the one that a `VInt` reads
+pub vint32-vint : (n : ℕ) (bytes rest : List ℕ) → vint32 bytes ≡ Value n rest → vint bytes ≡ Value n rest
+unfolding vint32 vint
+vint32-vint n bytes rest e =
+    let (m, middle, first, second) = continued_value (groups 5 bytes) (λ m. only_if (nat_lt m (2 ^ 32)) (give m)) n rest e in
+    ap (λ taken. continued taken (λ k. only_if (nat_lt k (2 ^ 64)) (give k))) (groups-longer 5 10 m bytes middle (omega arith) first) ∙ by_size m middle (nat_lt m (2 ^ 32)) refl second
+  where
+    by_size : (m : ℕ) (middle : List ℕ) (t : Bool) → nat_lt m (2 ^ 32) ≡ t → only_if t (give m) middle ≡ Value n rest → only_if (nat_lt m (2 ^ 64)) (give m) middle ≡ Value n rest
+    by_size m middle true is given = let small : m < 2 ^ 32 = ltb-true m (2 ^ 32) is in ap (λ (b : Bool). only_if b (give m) middle) (lt-ltb m (2 ^ 64) (omega arith)) ∙ given
+    by_size m middle false is given = absurd cc
 
 -- a loop that writes: so many groups are left, for the rest of the number
 pub record Progress (val left len rest : ℕ) (buffer : List ℕ) : Type 0 where

@@ -1,5 +1,5 @@
 -- Taking a value from the front of bytes.
-use Rattle.std.specs.Prelude.{ℕ, zero, suc, List, [], ◌∷◌, length, take, drop, Bool, nat_le, if◌then◌else◌}
+use Rattle.std.specs.Prelude.{⊤, ℕ, zero, suc, List, [], ◌∷◌, length, take, drop, Bool, nat_le, if◌then◌else◌}
 
 -- What stands at the front of bytes: a value, with the bytes after it; the bytes end before the value does; or no value
 -- begins so.
@@ -10,6 +10,12 @@ pub data Taken (A : Type 0) : Type 0 where
 
 abbrev pub Taking : Type 0 → Type 0
 Taking A = List ℕ → Taken A
+
+-- a value stands at the front
+abbrev pub HasValue : {A : Type 0} → Taken A → Type 0
+HasValue (Value x rest) = ⊤
+HasValue Cut = ⊥
+HasValue Wrong = ⊥
 
 -- what is left to do with a value, where there is one
 abbrev pub continued : {A B : Type 0} → Taken A → (A → Taking B) → Taken B

@@ -49,6 +49,12 @@ vint = do
 unfoldable pub vint_bytes : ℕ → List ℕ
 vint_bytes n = group_bytes 10 n
 
+-- a number below 2 ^ 32, of at most five bytes
+unfoldable pub vint32 : Taking ℕ
+vint32 = do
+  n ← groups 5
+  only_if (nat_lt n (2 ^ 32)) (give n)
+
 -- a number below 2 ^ 128, of at most nineteen bytes
 unfoldable pub vint128 : Taking ℕ
 vint128 = do

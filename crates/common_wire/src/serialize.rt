@@ -1,5 +1,5 @@
 // Values as bytes.
-ghost use Rattle.std.specs.Prelude.{◌≡◌, ◌-◌, ◌^◌, ◌≤◌, ◌++◌, ℕ, List, length, min, Err, Some};
+ghost use Rattle.std.specs.Prelude.{◌≡◌, ◌≢◌, ◌-◌, ◌^◌, ◌≤◌, ◌++◌, ℕ, List, length, min, Err, Some, IfErr};
 ghost use Rattle.owned_bytes.specs.Outside.{HasCause, WritesAll};
 ghost use Rattle.common_wire.specs.Taking.{Taking, Value};
 ghost use Rattle.common_wire.specs.Serialized.{IsTaking, Takes};
@@ -69,7 +69,8 @@ pub trait DeserializeFrom<T: BinarySerializable> {
     ghost front: { Self → List ℕ };
 
     fn deserialize(&mut self, alloc: Global) -> Result<T, WireError>
-        ensures { Takes T.shown T.taking (Some (front self.old)) (Some (front self.new)) result };
+        ensures bytes { Takes T.shown T.taking (Some (front self.old)) (Some (front self.new)) result }
+        ensures no_fault { IfErr result (λ e. e ≢ WireError.Failed) };
 }
 
 impl<T: BinarySerializable> DeserializeFrom<T> for &[u8] {

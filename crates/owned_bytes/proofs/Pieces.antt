@@ -1,7 +1,9 @@
 -- Laws of pieces: they are what stands at the front and then the pieces of the rest, however many there may be at most.
-use Rattle.std.proofs.Common.{◌≡◌, ℕ, zero, suc, ◌+◌, ◌<◌, ◌≤◌, List, [], ◌∷◌, ◌++◌, length, Option, Some, None, refl, ap, sym, ◌∙◌, arith, append_assoc, take, drop, length-drop}
+use Rattle.std.proofs.Common.{◌≡◌, ℕ, zero, suc, ◌+◌, ◌-◌, ◌<◌, ◌≤◌, List, [], ◌∷◌, ◌++◌, length, Option, Some, None, refl, ap, sym, ◌∙◌, arith, append_assoc, length-append, take, drop, length-drop}
 use Rattle.std.specs.Prelude.{nat_le, Bool, true, false}
-use Rattle.std.proofs.lemmas.Bool.{leb-true}
+use Rattle.std.proofs.lemmas.Bool.{leb-true, le-leb}
+use Rattle.std.proofs.lemmas.List.{take_all}
+use Rattle.std.proofs.Math.Seq.{take-append_seam, drop-append_seam}
 use Rattle.std.specs.List.{flat_map, AllByRecursion}
 use Rattle.owned_bytes.specs.Front.{Reading, ◌>>=◌, provided, bytes_at, Front, End, Piece, Fault, piece_or_fault, continued, pieces_upto, pieces}
 
@@ -118,7 +120,8 @@ pub pieces-extended : {A : Type 0} (front : List ℕ → Front A) → Shrinks fr
 unfolding Extended
 pieces-extended front s l bytes more xs e = extended-upto front s l (length bytes) bytes (omega arith) more xs e
 
-provided-true : (b : Bool) (x : Unit {0}) → provided b ≡ Some x → b ≡ true
+-- where a test lets a reading go on, it holds
+pub provided-true : (b : Bool) (x : Unit {0}) → provided b ≡ Some x → b ≡ true
 provided-true true x e = refl
 provided-true false x e = absurd cc
 
@@ -130,3 +133,17 @@ bytes_at-takes n bytes found e =
     let rest : drop n bytes ≡ found.1 = ap (λ (p : List ℕ × List ℕ). p.1) same in
     let there : n ≤ length bytes = leb-true _ _ (provided-true _ _ step.1) in
     omega (arith, there, ap length rest, length-drop n bytes)
+
+-- where there are so many bytes, they are found
+pub bytes_at-front : (n : ℕ) (bytes : List ℕ) → n ≤ length bytes → bytes_at n bytes ≡ Some (take n bytes, drop n bytes)
+bytes_at-front n bytes fits = ap (λ b. provided b >>= (λ _. Some (take n bytes, drop n bytes))) (le-leb n (length bytes) fits)
+
+-- all of some bytes, whatever follows them
+pub bytes_at-again : (bytes rest : List ℕ) → bytes_at (length bytes) (bytes ++ rest) ≡ Some (bytes, rest)
+bytes_at-again bytes rest =
+    bytes_at-front (length bytes) (bytes ++ rest) (omega (arith, length-append bytes rest))
+    ∙ ap (λ front. Some (front, drop (length bytes) (bytes ++ rest))) (take-append_seam bytes rest) ∙ ap (λ back. Some (bytes, back)) (drop-append_seam bytes rest)
+
+-- the value of `&bytes[n..]`
+pub rest_is : (n : ℕ) (bytes : List ℕ) → take (length bytes - n) (drop n bytes) ≡ drop n bytes
+rest_is n bytes = take_all (length bytes - n) (drop n bytes) (simp length-drop (omega arith))

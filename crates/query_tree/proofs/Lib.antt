@@ -8,3 +8,5 @@ pub mod Digits
 pub mod Grouping
 pub mod Derived
 pub mod Repeats
+pub mod Joining
+pub mod Shown

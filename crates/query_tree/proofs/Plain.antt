@@ -80,27 +80,29 @@ abbrev mutual
   jsons_of end = []
   jsons_of (next m t ps) = (m, json_of t) ∷ jsons_of ps
 
-debug-Clause : (pairs : List (Option Occur × UserInputAst)) → debug_text (tree.Clause pairs) ≡ layer_text (layer.Clause (map (λ p. (p.0, debug_text p.1)) pairs))
+pub debug-Clause : (pairs : List (Option Occur × UserInputAst)) → debug_text (tree.Clause pairs) ≡ layer_text (layer.Clause (map (λ p. (p.0, debug_text p.1)) pairs))
 unfolding debug_text
 debug-Clause pairs = ap debug_text (sym (rolls-Clause pairs)) ∙ fold-roll-UserInputAst _ _ (layer.Clause pairs)
 
-debug-Boost : (t : UserInputAst) (d : Decimal) → debug_text (tree.Boost t d) ≡ layer_text (layer.Boost (debug_text t) d)
+pub debug-Boost : (t : UserInputAst) (d : Decimal) → debug_text (tree.Boost t d) ≡ layer_text (layer.Boost (debug_text t) d)
 unfolding debug_text
 debug-Boost t d = ap debug_text (sym (rolls-Boost t d)) ∙ fold-roll-UserInputAst _ _ (layer.Boost t d)
 
-debug-Leaf : (l : UserInputLeaf) → debug_text (tree.Leaf l) ≡ leaf_text l
+pub debug-Leaf : (l : UserInputLeaf) → debug_text (tree.Leaf l) ≡ leaf_text l
 unfolding debug_text
 debug-Leaf l = ap debug_text (sym (rolls-Leaf l)) ∙ fold-roll-UserInputAst _ _ (layer.Leaf l)
 
-json-Clause : (pairs : List (Option Occur × UserInputAst)) → json_text (tree.Clause pairs) ≡ layer_json (layer.Clause (map (λ p. (p.0, json_text p.1)) pairs))
+pub ruleset trees_shown = (debug-Clause, debug-Boost, debug-Leaf)
+
+pub json-Clause : (pairs : List (Option Occur × UserInputAst)) → json_text (tree.Clause pairs) ≡ layer_json (layer.Clause (map (λ p. (p.0, json_text p.1)) pairs))
 unfolding json_text
 json-Clause pairs = ap json_text (sym (rolls-Clause pairs)) ∙ fold-roll-UserInputAst _ _ (layer.Clause pairs)
 
-json-Boost : (t : UserInputAst) (d : Decimal) → json_text (tree.Boost t d) ≡ layer_json (layer.Boost (json_text t) d)
+pub json-Boost : (t : UserInputAst) (d : Decimal) → json_text (tree.Boost t d) ≡ layer_json (layer.Boost (json_text t) d)
 unfolding json_text
 json-Boost t d = ap json_text (sym (rolls-Boost t d)) ∙ fold-roll-UserInputAst _ _ (layer.Boost t d)
 
-json-Leaf : (l : UserInputLeaf) → json_text (tree.Leaf l) ≡ leaf_json l
+pub json-Leaf : (l : UserInputLeaf) → json_text (tree.Leaf l) ≡ leaf_json l
 unfolding json_text
 json-Leaf l = ap json_text (sym (rolls-Leaf l)) ∙ fold-roll-UserInputAst _ _ (layer.Leaf l)
 

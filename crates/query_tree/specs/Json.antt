@@ -9,6 +9,7 @@ use Rattle.query_tree.specs.declared.tree.Delimiter.{Delimiter}
 use Rattle.query_tree.specs.declared.tree.Delimiter.TheVariants as delimiter
 use Rattle.query_tree.specs.declared.tree.UserInputBound.{UserInputBound}
 use Rattle.query_tree.specs.declared.tree.UserInputBound.TheVariants.{Inclusive, Exclusive, Unbounded}
+use Rattle.query_tree.specs.declared.tree.UserInputLiteral.{UserInputLiteral}
 use Rattle.query_tree.specs.declared.tree.UserInputLeaf.{UserInputLeaf}
 use Rattle.query_tree.specs.declared.tree.UserInputLeaf.TheVariants as leaf
 use Rattle.query_tree.specs.declared.tree.UserInputAst.{UserInputAst, fold-UserInputAst}
@@ -52,10 +53,13 @@ bound_json (Inclusive text) = object (codes "inclusive") (member (codes "value")
 bound_json (Exclusive text) = object (codes "exclusive") (member (codes "value") (quoted text) ∷ [])
 bound_json Unbounded = object (codes "unbounded") []
 
-unfoldable pub leaf_json : UserInputLeaf → List ℕ
-leaf_json (leaf.Literal l) = object (codes "literal")
+abbrev pub literal_json : UserInputLiteral → List ℕ
+literal_json l = object (codes "literal")
     (member (codes "field_name") (field_json l.field_name) ∷ member (codes "phrase") (quoted l.phrase) ∷ member (codes "delimiter") (delimiter_json l.delimiter)
     ∷ member (codes "slop") (decimal l.slop) ∷ member (codes "prefix") (bool_json l.prefix) ∷ [])
+
+unfoldable pub leaf_json : UserInputLeaf → List ℕ
+leaf_json (leaf.Literal l) = literal_json l
 leaf_json leaf.All = object (codes "all") []
 leaf_json (leaf.Range field lower upper) = object (codes "range") (member (codes "field") (field_json field) ∷ member (codes "lower") (bound_json lower) ∷ member (codes "upper") (bound_json upper) ∷ [])
 leaf_json (leaf.Set field elements) = object (codes "set") (member (codes "field") (field_json field) ∷ member (codes "elements") (array (map quoted elements)) ∷ [])

@@ -8,6 +8,7 @@ use Rattle.query_tree.specs.declared.tree.Delimiter.{Delimiter}
 use Rattle.query_tree.specs.declared.tree.Delimiter.TheVariants as delimiter
 use Rattle.query_tree.specs.declared.tree.UserInputBound.{UserInputBound}
 use Rattle.query_tree.specs.declared.tree.UserInputBound.TheVariants.{Inclusive, Exclusive, Unbounded}
+use Rattle.query_tree.specs.declared.tree.UserInputLiteral.{UserInputLiteral}
 use Rattle.query_tree.specs.declared.tree.UserInputLeaf.{UserInputLeaf}
 use Rattle.query_tree.specs.declared.tree.UserInputLeaf.TheVariants as leaf
 use Rattle.query_tree.specs.declared.tree.UserInputAst.{UserInputAst, fold-UserInputAst}
@@ -51,21 +52,41 @@ abbrev pub set_gap : Option (List ℕ) → List ℕ
 set_gap None = []
 set_gap (Some field) = codes " "
 
+abbrev pub literal_text : UserInputLiteral → List ℕ
+literal_text l = field_text l.field_name ++ delimited_text l.delimiter l.phrase ++ end_text l.slop l.prefix
+
+-- what stands in front of one more, behind so many
+abbrev pub gap : ℕ → List ℕ
+gap zero = []
+gap (suc n) = codes " "
+
+abbrev pub range_text : Option (List ℕ) → UserInputBound → UserInputBound → List ℕ
+range_text field lower upper = field_text field ++ lower_text lower ++ codes " TO " ++ upper_text upper
+
+abbrev pub set_text : Option (List ℕ) → List (List ℕ) → List ℕ
+set_text field elements = field_text field ++ set_gap field ++ codes "IN [" ++ join_with_byte 32 (map in_quotes elements) ++ codes "]"
+
+abbrev pub regex_text : Option (List ℕ) → List ℕ → List ℕ
+regex_text field pattern = field_text field ++ codes "/" ++ pattern ++ codes "/"
+
 unfoldable pub leaf_text : UserInputLeaf → List ℕ
-leaf_text (leaf.Literal l) = field_text l.field_name ++ delimited_text l.delimiter l.phrase ++ end_text l.slop l.prefix
+leaf_text (leaf.Literal l) = literal_text l
 leaf_text leaf.All = codes "*"
-leaf_text (leaf.Range field lower upper) = field_text field ++ lower_text lower ++ codes " TO " ++ upper_text upper
-leaf_text (leaf.Set field elements) = field_text field ++ set_gap field ++ codes "IN [" ++ join_with_byte 32 (map in_quotes elements) ++ codes "]"
+leaf_text (leaf.Range field lower upper) = range_text field lower upper
+leaf_text (leaf.Set field elements) = set_text field elements
 leaf_text (leaf.Exists field) = codes "$exists(" ++ in_quotes field ++ codes ")"
-leaf_text (leaf.Regex field pattern) = field_text field ++ codes "/" ++ pattern ++ codes "/"
+leaf_text (leaf.Regex field pattern) = regex_text field pattern
 
 abbrev pub decimal_text : List ℕ → List ℕ → List ℕ
 decimal_text whole [] = whole
 decimal_text whole (d ∷ ds) = whole ++ codes "." ++ d ∷ ds
 
+abbrev pub pair_text : Option Occur × List ℕ → List ℕ
+pair_text pair = mark_text pair.0 ++ pair.1
+
 abbrev pub clause_text : List (Option Occur × List ℕ) → List ℕ
 clause_text [] = codes "<emptyclause>"
-clause_text (pair ∷ pairs) = codes "(" ++ join_with_byte 32 (map (λ p. mark_text p.0 ++ p.1) (pair ∷ pairs)) ++ codes ")"
+clause_text (pair ∷ pairs) = codes "(" ++ join_with_byte 32 (map pair_text (pair ∷ pairs)) ++ codes ")"
 
 -- one layer, where each tree below is its text
 abbrev pub layer_text : UserInputAst-F (List ℕ) → List ℕ
@@ -75,3 +96,11 @@ layer_text (Leaf found) = leaf_text found
 
 unfoldable pub debug_text : UserInputAst → List ℕ
 debug_text = fold-UserInputAst (List ℕ) layer_text
+
+-- a pair with its tree's text
+abbrev pub shown_pair : Option Occur × UserInputAst → Option Occur × List ℕ
+shown_pair pair = (pair.0, debug_text pair.1)
+
+-- the same, as a text
+abbrev pub whole_pair : Option Occur × UserInputAst → List ℕ
+whole_pair pair = mark_text pair.0 ++ debug_text pair.1

@@ -9,6 +9,7 @@ mod decimal;
 mod fields;
 mod item;
 mod rewriting;
+mod showing;
 mod tree;
 
 pub use aggregating::{aggregated, negated};
