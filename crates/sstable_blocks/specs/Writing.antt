@@ -63,6 +63,7 @@ pub record KeepsBlock {V : Type 0} (codec : Codec V) (old new : WriterState V) (
   pub same_deltas : new.deltas ≡ old.deltas
   pub same_values : new.values ≡ old.values
   pub same_len : new.block_len ≡ old.block_len
+  pub some : old.deltas ≢ []
   pub prefix : AppendsPrefix old.written new.written (block (content codec old))
   pub too_long : e ≡ BlockTooLong → 2 ^ 32 ≤ length (content codec old) + 1
   pub nothing : e ≡ BlockTooLong → Keeps old.written new.written

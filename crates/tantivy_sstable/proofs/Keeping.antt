@@ -1,9 +1,9 @@
 -- Blocks whose first keys keep nothing are blocks for each codec.
-use Rattle.std.proofs.Common.{◌≡◌, ℕ, ◌≤◌, List, [], ◌∷◌, ◌++◌, length, take, Option, Some, None, Result, Ok, Err, Bool, true, false, ◌&&◌, ◌||◌, refl, ap, sym, ◌∙◌, subst, ◌⊎◌, inl, inr, ⊎_elim, eqb, leb, cond}
+use Rattle.std.proofs.Common.{◌≡◌, ℕ, List, [], ◌∷◌, ◌++◌, length, take, Option, Some, None, Result, Ok, Err, Bool, true, false, ◌&&◌, ◌||◌, refl, ap, sym, ◌∙◌, inl, ⊎_elim, eqb}
 use Rattle.std.proofs.lemmas.Bool.{eqb-true, or_cases, and_parts}
-use Rattle.std.specs.Prelude.{unwrap_or, slice_range, option_map}
+use Rattle.std.specs.Prelude.{slice_range}
 use Rattle.owned_bytes.specs.Front.{◌>>=◌, provided, pieces}
-use Rattle.owned_bytes.specs.Keys.{Key, is_below, shared}
+use Rattle.owned_bytes.specs.Keys.{Key, shared}
 use Rattle.owned_bytes.proofs.Pieces.{bind_some, some_is}
 use Rattle.sstable_blocks.specs.Codec.{Codec}
 use Rattle.sstable_blocks.specs.Delta.{Delta}
@@ -11,7 +11,7 @@ use Rattle.sstable_blocks.specs.Block.{front_of_deltas, key_after}
 unfoldable use Rattle.sstable_blocks.specs.Block.{keys_after, keys_of, paired, block_of}
 use Rattle.sstable_blocks.specs.Run.{Block, Run, front_of_blocks, last_key, may_follow, key_before, entries_of}
 unfoldable use Rattle.sstable_blocks.specs.Run.{blocks_after, whole_run_of, run_of}
-use Rattle.tantivy_sstable.specs.Index.{Index, AtMostOneBlock, Entries, is_zeros}
+use Rattle.tantivy_sstable.specs.Index.{Index, Entries, is_zeros}
 use Rattle.tantivy_sstable.specs.Table.{keeping_nothing, indexes, entries_under}
 unfoldable use Rattle.tantivy_sstable.specs.Table.{points_to, places_from, blocks_of, blocks_under}
 unfoldable use Rattle.tantivy_sstable.specs.Between.{value_at}
@@ -19,7 +19,6 @@ use Rattle.owned_bytes.specs.Outside.{IsPart}
 use Rattle.tantivy_sstable.specs.Opened.{Opened, entries_told}
 use Rattle.tantivy_sstable.specs.Reading.{Finds, FindsTold}
 use Rattle.tantivy_sstable.specs.declared.errors.SstError.{SstError}
-use Rattle.tantivy_sstable.specs.declared.errors.SstError.TheVariants as errors
 
 provided-true : (b : Bool) (x : Unit {0}) → provided b ≡ Some x → b ≡ true
 provided-true true x e = refl

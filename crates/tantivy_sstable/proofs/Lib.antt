@@ -5,3 +5,5 @@ pub mod ReadingLaws
 pub mod RisingRuns
 pub mod Seeking
 pub mod Keeping
+pub mod Inserting
+pub mod Finishing

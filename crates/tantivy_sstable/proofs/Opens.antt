@@ -149,7 +149,7 @@ index_v3-short : (part : List ℕ) → length part < 8 → index_v3_of part ≡ 
 unfolding index_v3_of
 index_v3-short part short = ap (λ o. o >>= (λ (stored : ℕ × List ℕ). if stored.0 == 0 then Some AtMostOneBlock else (map_and_store_of stored.0 stored.1 >>= (λ entries. Some (Entries entries))))) (at_end-none 8 (number_at w64) part short)
 
-index_v3-zero : (part : List ℕ) → EndsWith part 0 → index_v3_of part ≡ Some AtMostOneBlock
+pub index_v3-zero : (part : List ℕ) → EndsWith part 0 → index_v3_of part ≡ Some AtMostOneBlock
 unfolding index_v3_of
 index_v3-zero part ends =
     ap (λ o. o >>= (λ (stored : ℕ × List ℕ). if stored.0 == 0 then Some AtMostOneBlock else (map_and_store_of stored.0 stored.1 >>= (λ entries. Some (Entries entries))))) (number_at_end w64 part ends.0)
@@ -251,7 +251,7 @@ fetches-index (Some bytes) file footer size k before between now long ordered fi
       length-table bytes file ordered (omega (arith, long, fits)),
     )
 
-found-is : {V : Type 0} (codec : Codec V) (table : List ℕ) (footer : code.Footer) (index : Index) → HasFooter table footer → index_of_version footer.version (drop footer.index_offset (body_of table)) ≡ Some index
+pub found-is : {V : Type 0} (codec : Codec V) (table : List ℕ) (footer : code.Footer) (index : Index) → HasFooter table footer → index_of_version footer.version (drop footer.index_offset (body_of table)) ≡ Some index
     → sst_of codec table ≡ entries_under codec index footer.num_terms (take footer.index_offset (body_of table))
 unfolding by_index
 found-is codec table footer index h is = sst_of-by_index codec table (parts_by table footer) (Some index) (parts-of table footer h) is

@@ -1,14 +1,13 @@
 -- A step to an entry leaves less to do.
-use Rattle.std.proofs.Common.{◌≡◌, ℕ, ◌+◌, ◌-◌, ◌*◌, ◌^◌, ◌<◌, ◌≤◌, List, [], ◌∷◌, length, Option, Some, None, Result, Ok, Err, refl, ap, sym, ◌∙◌, ◌⊎◌, inl, inr, arith}
-use Rattle.owned_bytes.specs.Front.{◌>>=◌, Piece, piece_or_fault}
-use Rattle.owned_bytes.proofs.Pieces.{bind_some, some_is, Shrinks}
+use Rattle.std.proofs.Common.{◌≡◌, ℕ, ◌+◌, ◌^◌, ◌<◌, ◌≤◌, List, [], ◌∷◌, length, Option, Some, None, Ok, Err, refl, ap, sym, ◌⊎◌, inl, inr, arith}
+use Rattle.owned_bytes.specs.Front.{◌>>=◌, piece_or_fault}
+use Rattle.owned_bytes.proofs.Pieces.{bind_some, some_is}
 use Rattle.sstable_blocks.specs.Codec.{Codec}
 use Rattle.sstable_blocks.specs.Values.{Values, value_at}
 use Rattle.sstable_blocks.specs.Content.{Found}
 unfoldable use Rattle.sstable_blocks.specs.Content.{block_at}
 use Rattle.sstable_blocks.specs.Delta.{Delta}
 unfoldable use Rattle.sstable_blocks.specs.Delta.{delta_at}
-use Rattle.sstable_blocks.specs.Block.{front_of_deltas}
 use Rattle.sstable_blocks.specs.Entries.{Entry, Walk, Step, entry_at, to_entry, within_block, to_first, to_block, onward, step_from, step}
 use Rattle.sstable_blocks.proofs.DeltaLaws.{deltas-shrink}
 use Rattle.tantivy_sstable.specs.Reading.{work_left}

@@ -1,9 +1,7 @@
 -- The keys of a run rise.
-use Rattle.std.proofs.Common.{◌≡◌, ℕ, ◌<◌, List, [], ◌∷◌, ◌++◌, length, map, Option, Some, None, Bool, true, false, ◌&&◌, ◌||◌, refl, ap, sym, ◌∙◌, subst, arith, eqb}
+use Rattle.std.proofs.Common.{◌≡◌, ℕ, ◌<◌, List, [], ◌∷◌, ◌++◌, length, map, Option, Some, None, Bool, true, false, ◌||◌, refl, ap, sym, ◌∙◌, arith, eqb}
 use Rattle.std.proofs.lemmas.Bool.{and_parts, and_from, eqb-true}
-use Rattle.std.proofs.lemmas.List.{map-append}
-use Rattle.std.specs.List.{zip, flat_map}
-use Rattle.std.specs.Prelude.{unwrap_or}
+use Rattle.std.specs.List.{zip}
 use Rattle.owned_bytes.specs.Front.{◌>>=◌, provided, pieces}
 use Rattle.owned_bytes.specs.Keys.{Key, is_below, shared}
 unfoldable use Rattle.owned_bytes.specs.Keys.{is_rising}

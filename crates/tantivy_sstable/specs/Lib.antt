@@ -10,5 +10,7 @@ pub mod Shown
 pub mod Steps
 pub mod Reading
 pub mod Reader
+pub mod Making
+pub mod Writer
 pub mod Computes
 pub mod Rows

@@ -1,5 +1,4 @@
 -- Where a `Reader` stands.
-use Rattle.std.specs.Prelude.{ℕ}
 use Rattle.sstable_blocks.specs.Values.{Values}
 use Rattle.sstable_blocks.specs.DeltaReader.{walk}
 use Rattle.tantivy_sstable.specs.Reading.{Reads}

@@ -10,12 +10,14 @@ mod index;
 mod lookup;
 mod reader;
 mod table;
+mod writer;
 
 pub use dictionary::Dictionary;
-pub use errors::SstError;
+pub use errors::{SstError, SstWriteError, Unfinished};
 pub use index::{BlockAddr, SSTableIndex, SSTableIndexV2, SSTableIndexV3Empty};
 pub use reader::Reader;
 pub use table::{RangeSSTable, SSTable};
+pub use writer::Writer;
 
 #[cfg(test)]
 mod tests;

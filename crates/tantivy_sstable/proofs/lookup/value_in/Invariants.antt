@@ -1,4 +1,4 @@
-use Rattle.std.proofs.Common.{◌≡◌, ℕ, List, Some}
+use Rattle.std.proofs.Common.{◌≡◌, List, Some}
 use Rattle.owned_bytes.specs.Keys.{Key}
 use Rattle.sstable_blocks.specs.Run.{run_of}
 use Rattle.tantivy_sstable.specs.Reading.{Seeks, work_left}

@@ -1,4 +1,4 @@
-use Rattle.std.proofs.Common.{◌≡◌, ℕ, ap, sym, ◌∙◌}
+use Rattle.std.proofs.Common.{ap, sym, ◌∙◌}
 use Rattle.tantivy_sstable.specs.Opened.{Opened}
 use Rattle.tantivy_sstable.specs.Shown.{shown_index}
 use Rattle.tantivy_sstable.proofs.Keeping.{finds-v2, finds-in}

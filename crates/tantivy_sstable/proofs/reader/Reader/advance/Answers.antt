@@ -1,4 +1,4 @@
-use Rattle.std.proofs.Common.{◌≡◌, ℕ, ◌+◌, ◌<◌, ◌≤◌, ◌^◌, Bool, true, Ok, Some, length, subst, arith}
+use Rattle.std.proofs.Common.{Bool, Ok, subst, arith}
 use Rattle.sstable_blocks.specs.DeltaReader.{walk}
 use Rattle.sstable_blocks.specs.Entries.{Advances}
 use Rattle.tantivy_sstable.proofs.ReadingLaws.{work_left-falls}
