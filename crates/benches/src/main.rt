@@ -5,6 +5,7 @@
 
 mod ask;
 mod documents;
+mod gather;
 // mod index;
 mod packed;
 mod parse;
@@ -23,6 +24,7 @@ fn main(rt: HostRuntime) -> anyhow::Result<()> {
         // "index" => index::time(&rt, count),
         "parse" => parse::time(&rt, count),
         "sets" => sets::time(&rt, count),
+        "gather" => gather::time(&rt, count),
         "packed" => packed::time(&rt, count),
         _ => Ok(()),
     }
