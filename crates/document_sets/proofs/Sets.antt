@@ -4,6 +4,7 @@ use Rattle.std.specs.Ordering.{nat_cmp}
 use Rattle.std.specs.Cmp.{nat_cmp_total}
 use Rattle.std.specs.FinSet.{empty, insert, contains, union, intersection, difference, from_list, from_list_push, nat_cmp-IsAntisymmetric}
 use Rattle.std.proofs.lemmas.Bool.{lt-ltb, ltb-true, false≢true, eqb-true}
+use Rattle.std.proofs.lemmas.List.Elements.{All-head, All-tail}
 use Rattle.common_bitset.specs.Numbers.{Numbers, below, IsBelow}
 use Rattle.common_bitset.specs.Laws.Sets.{alike, contains_insert, contains_below, contains_union, contains_intersection, contains_difference, contains_empty}
 use Rattle.document_sets.specs.Members.{with_numbers}
@@ -135,7 +136,7 @@ IsBelow-insert n s k within small e h = or_cases (nat_eq e k) (contains s e) (λ
 pub IsBelow-from_list : (n : ℕ) (numbers : List ℕ) → All (λ number. number < n) numbers → IsBelow n (from_list numbers)
 IsBelow-from_list n [] all = IsBelow-none n
 IsBelow-from_list n (k ∷ numbers) all =
-    IsBelow-insert n (from_list numbers) k (IsBelow-from_list n numbers (All-rest (λ number. number < n) k numbers all)) (All-head (λ number. number < n) k numbers all)
+    IsBelow-insert n (from_list numbers) k (IsBelow-from_list n numbers (All-tail (λ number. number < n) k numbers all)) (All-head (λ number. number < n) k numbers all)
 
 -- ---- numbers that are added
 

@@ -142,6 +142,9 @@ impl DocSet {
         ensures elements { self.new.elements ≡ set.intersection self.old.elements other.elements }
         ensures max_value { self.new.max_value ≡ self.old.max_value }
     {
+        if let Members::Nothing = &self.members {
+            return;
+        }
         match other.members {
             Members::Nothing => self.members = Members::Nothing,
             Members::Everything => {}

@@ -1,8 +1,7 @@
 // The sets of a clause.
-ghost use Rattle.std.specs.Prelude.{◌≡◌, Some, None, IfSome, IfNone, unwrap_or};
+ghost use Rattle.std.specs.Prelude.{◌≡◌, Some, None, unwrap_or};
 ghost use Rattle.std.specs.Option.{option_or};
 ghost use Rattle.std.specs.FinSet as set;
-ghost use Rattle.common_bitset.specs.Numbers.{below};
 ghost use Rattle.document_sets.specs.Joined.{met, united, joined_elements, elements_in, IsOver};
 
 use crate::DocSet;
@@ -107,8 +106,7 @@ fn without(mut chosen: DocSet, excluded: Option<DocSet>) -> DocSet
 // All documents but the excluded ones; none where there is no such set.
 fn others(documents: u32, excluded: Option<DocSet>) -> DocSet
     requires { IsOver documents excluded }
-    ensures none { IfNone excluded (result.elements ≡ set.empty) }
-    ensures some { IfSome excluded (λ x. result.elements ≡ set.difference (below documents) x.elements) }
+    ensures elements { result.elements ≡ joined_elements (record { documents = documents; required = None; excluded = elements_in excluded; offered = None }) }
     ensures max_value { result.max_value ≡ documents }
 {
     match excluded {
