@@ -1,20 +1,20 @@
 -- Worked files.
-use Rattle.std.specs.Prelude.{◌≡◌, ℕ, List, [], ◌∷◌, take, codes, Some, None}
+use Rattle.std.specs.Prelude.{◌≡◌, ℕ, List, [], ◌∷◌, take, codes, None}
 use Rattle.sstable_blocks.specs.Hex.{hex}
 use Rattle.term_documents.specs.declared.documents.Pair.{Pair}
 use Rattle.term_documents.specs.declared.documents.Doc.{Doc}
 use Rattle.index_file.specs.IndexFile.{IsIndexOf, table_of}
 
 -- a pair of the field f
-abbrev pub of_f : String → Pair
-of_f term = record { field = codes "f"; term = codes term }
+abbrev pub of_f : List ℕ → Pair
+of_f term = record { field = codes "f"; term = term }
 
 -- three documents of the field f: a; a and b; b
 abbrev pub three_documents : List Doc
 three_documents =
-    record { pairs = of_f "a" ∷ [] }
-    ∷ record { pairs = of_f "a" ∷ of_f "b" ∷ [] }
-    ∷ record { pairs = of_f "b" ∷ [] } ∷ []
+    record { pairs = of_f (codes "a") ∷ [] }
+    ∷ record { pairs = of_f (codes "a") ∷ of_f (codes "b") ∷ [] }
+    ∷ record { pairs = of_f (codes "b") ∷ [] } ∷ []
 
 abbrev pub three_file : List ℕ
 three_file = hex (codes "03000000 0400000000000000 94 0b000000 00 03000202 306600611262 00000000 0000000000000000 1300000000000000 0200000000000000 03000000")

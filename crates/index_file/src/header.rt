@@ -10,7 +10,8 @@ pub const HEADER_LEN: usize = 12;
 /// The bits that each number of so many documents is packed in: 0 where there are fewer than two.
 pub fn width_of(documents: u32) -> u8
     ensures width { result ≡ spec.width_of documents }
-    ensures few { result ≤ 32 }
+    ensures few { result ≤ 64 }
+    ensures allowed { 56 < result → result ≡ 64 }
     ensures fits { documents ≤ 2 ^ result }
 {
     if documents < 2 {
