@@ -1,11 +1,14 @@
 -- Laws of sets of documents.
-use Rattle.std.proofs.Common.{◌≡◌, ℕ, zero, suc, ◌+◌, ◌<◌, ◌&&◌, ◌||◌, not, Bool, true, false, List, [], ◌∷◌, ◌++◌, All, refl, sym, ap, ◌∙◌, arith, nat_eq, ltb}
+use Rattle.std.proofs.Common.{◌≡◌, ℕ, zero, suc, ◌+◌, ◌<◌, ◌&&◌, ◌||◌, not, Bool, true, false, List, [], ◌∷◌, ◌++◌, length, All, refl, sym, ap, ◌∙◌, arith, nat_eq, ltb, cond, filter, add-one, zero-add, append-nil}
+use Rattle.std.specs.Prelude.{◌==◌}
 use Rattle.std.specs.Ordering.{nat_cmp}
 use Rattle.std.specs.Cmp.{nat_cmp_total}
 use Rattle.std.specs.FinSet.{empty, insert, contains, union, intersection, difference, from_list, from_list_push, nat_cmp-IsAntisymmetric}
 use Rattle.std.proofs.lemmas.Bool.{lt-ltb, ltb-true, false≢true, eqb-true}
 use Rattle.std.proofs.lemmas.List.Elements.{All-head, All-tail}
-use Rattle.common_bitset.specs.Numbers.{Numbers, below, IsBelow}
+use Rattle.common_bitset.specs.Numbers.{Numbers, below, IsBelow, rising}
+use Rattle.std.specs.List.{range_with_len}
+use Rattle.common_bitset.specs.Laws.Ranges.{range_more, filter_more}
 use Rattle.common_bitset.specs.Laws.Sets.{alike, contains_insert, contains_below, contains_union, contains_intersection, contains_difference, contains_empty}
 use Rattle.document_sets.specs.Members.{with_numbers}
 
@@ -143,6 +146,11 @@ IsBelow-from_list n (k ∷ numbers) all =
 pub with-none : (s : Numbers) → with_numbers s [] ≡ s
 with-none s = union-none s
 
+-- a list that is tested to be empty
+pub with-empty : (s : Numbers) (numbers : List ℕ) → true ≡ (length numbers == 0) → s ≡ with_numbers s numbers
+with-empty s [] none = sym (with-none s)
+with-empty s (k ∷ numbers) none = let no_length = eqb-true (length (k ∷ numbers)) 0 (sym none) in absurd (omega (arith, no_length))
+
 union-insert : (s t : Numbers) (k : ℕ) → union s (insert t k) ≡ insert (union s t) k
 union-insert s t k = alike _ _ (λ e.
     contains_union s (insert t k) e ∙ ap (λ b. contains s e || b) (contains_insert t k e)
@@ -163,3 +171,25 @@ full-with n numbers all = full-union n (from_list numbers) (IsBelow-from_list n 
 
 pub IsBelow-with : (n : ℕ) (s : Numbers) (numbers : List ℕ) → IsBelow n s → All (λ number. number < n) numbers → IsBelow n (with_numbers s numbers)
 IsBelow-with n s numbers within all = IsBelow-union n s (from_list numbers) within (IsBelow-from_list n numbers all)
+
+-- ---- the ascending list
+
+step : (p : ℕ → Bool) (n : ℕ) → filter p (range_with_len 0 (n + 1)) ≡ filter p (range_with_len 0 n) ++ cond (p n) (n ∷ []) []
+step p n =
+    ap (λ m. filter p (range_with_len 0 m)) (add-one n) ∙ ap (filter p) (range_more 0 n) ∙ filter_more p (range_with_len 0 n) (0 + n)
+    ∙ ap (λ m. filter p (range_with_len 0 n) ++ cond (p m) (m ∷ []) []) (zero-add n)
+
+pub list-more : (s : Numbers) (n : ℕ) (ids : List ℕ) → contains s n ≡ true → ids ≡ filter (contains s) (range_with_len 0 n)
+    → ids ++ n ∷ [] ≡ filter (contains s) (range_with_len 0 (n + 1))
+list-more s n ids here so_far =
+    ap (λ xs. xs ++ n ∷ []) so_far ∙ ap (λ b. filter (contains s) (range_with_len 0 n) ++ cond b (n ∷ []) []) (sym here) ∙ sym (step (contains s) n)
+
+pub list-same : (s : Numbers) (n : ℕ) (ids : List ℕ) → contains s n ≡ false → ids ≡ filter (contains s) (range_with_len 0 n)
+    → ids ≡ filter (contains s) (range_with_len 0 (n + 1))
+list-same s n ids absent so_far =
+    so_far ∙ sym (append-nil (filter (contains s) (range_with_len 0 n)))
+    ∙ ap (λ b. filter (contains s) (range_with_len 0 n) ++ cond b (n ∷ []) []) (sym absent) ∙ sym (step (contains s) n)
+
+pub all-rising : (s : Numbers) (n end : ℕ) (ids : List ℕ) → end ≡ n → ids ≡ filter (contains s) (range_with_len 0 end) → ids ≡ rising n s
+unfolding rising
+all-rising s n end ids ended so_far = so_far ∙ ap (λ m. filter (contains s) (range_with_len 0 m)) ended

@@ -34,6 +34,12 @@ listed-proper n m bits within is =
     let w = subst (AreWithin n) is within in
     record { within = subst (λ k. IsBelow k bits.elements) (sym w.1) w.2; small = subst (λ k. k < 2 ^ 32) (sym w.1) w.0 }
 
+pub complement-proper : (bits new : Subset) → IsProper bits → new.max_value ≡ bits.max_value → new.elements ≡ difference (below bits.max_value) bits.elements → IsProper new
+complement-proper bits new proper bound elements = record {
+  within = subst (λ k. IsBelow k new.elements) (sym bound) (subst (IsBelow bits.max_value) (sym elements) (IsBelow-complement bits.max_value bits.elements));
+  small = subst (λ k. k < 2 ^ 32) (sym bound) proper.small;
+}
+
 -- ---- what is made of the set
 
 pub nothing-union : (n : ℕ) (m : Members) (s : Subset) (t : Numbers) → m ≡ Nothing → shown n m ≡ s → t ≡ union s.elements t

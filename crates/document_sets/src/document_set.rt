@@ -175,11 +175,18 @@ impl DocSet {
         match other.members {
             Members::Nothing => {}
             Members::Everything => self.members = Members::Nothing,
-            Members::Listed(mut bits) => {
-                bits.complement();
-                self.intersect_with_bits(bits);
-            }
+            Members::Listed(bits) => self.subtract_bits(bits),
         }
+    }
+
+    fn subtract_bits(&mut self, mut bits: BitSet)
+        requires bound { bits.max_value ≡ self.old.max_value }
+        requires within { IsProper bits }
+        ensures elements { self.new.elements ≡ set.difference self.old.elements bits.elements }
+        ensures max_value { self.new.max_value ≡ self.old.max_value }
+    {
+        bits.complement();
+        self.intersect_with_bits(bits);
     }
 
     /// Leaves the documents that were no members.

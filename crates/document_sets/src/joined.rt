@@ -92,15 +92,19 @@ fn first_of(first: Option<DocSet>, second: Option<DocSet>) -> Option<DocSet>
 }
 
 // The set without the excluded members.
-fn without(mut chosen: DocSet, excluded: Option<DocSet>) -> DocSet
+fn without(chosen: DocSet, excluded: Option<DocSet>) -> DocSet
     requires { IsOver chosen.max_value excluded }
     ensures elements { result.elements ≡ set.difference chosen.elements (unwrap_or (elements_in excluded) set.empty) }
     ensures max_value { result.max_value ≡ chosen.max_value }
 {
-    if let Some(excluded) = excluded {
-        chosen.subtract(excluded);
+    let mut left = chosen;
+    match excluded {
+        Some(excluded) => {
+            left.subtract(excluded);
+            left
+        }
+        None => left,
     }
-    chosen
 }
 
 // All documents but the excluded ones; none where there is no such set.
