@@ -4,3 +4,6 @@ pub mod Shown
 pub mod Lines
 pub mod Outcomes
 pub mod Reading
+pub mod Refusals
+pub mod Printing
+pub mod Running
