@@ -7,3 +7,4 @@ pub mod Seeking
 pub mod Keeping
 pub mod Inserting
 pub mod Finishing
+pub mod RangeTables
