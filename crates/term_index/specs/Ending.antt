@@ -1,5 +1,5 @@
 -- Which outcome a command has where neither a fault nor want of memory comes.
-use Rattle.std.specs.Prelude.{◌≡◌, ◌⊎◌, ℕ, ◌^◌, List, [], ◌∷◌, length, nat_lt, nat_le, Option, Some, None, if◌then◌else◌}
+use Rattle.std.specs.Prelude.{◌≡◌, ◌⊎◌, ℕ, ◌^◌, List, [], ◌∷◌, length, nat_lt, Option, Some, None, if◌then◌else◌}
 use Rattle.query_tree.specs.declared.tree.UserInputAst.{UserInputAst}
 use Rattle.query_tree.specs.Answer as grammar
 use Rattle.query_tree.specs.Answer.{tree_of}
@@ -46,7 +46,7 @@ read_end pages (Some docs) = documents_end pages docs
 
 -- of `build` with so many pages over these bytes
 unfoldable pub build_end : ℕ → List ℕ → Outcome
-build_end pages bytes = if nat_le (length bytes) input_limit then read_end pages (docs_of bytes) else InputTooLong
+build_end pages bytes = if nat_lt input_limit (length bytes) then InputTooLong else read_end pages (docs_of bytes)
 
 -- ---- by the query
 

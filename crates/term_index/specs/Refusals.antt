@@ -45,7 +45,3 @@ Refuses pages (BadField doc pair) docs = (length docs < 2 ^ 32) × (first_fault 
 Refuses pages (KeyTooLong doc pair) docs = (length docs < 2 ^ 32) × (first_fault docs ≡ Some (record { doc = doc; pair = pair; fault = faults.KeyTooLong }))
 Refuses pages ArenaFull docs = AreValidDocuments docs × (size_limit pages < documents_size docs)
 Refuses pages _ docs = ⊥
-
--- a refusal of the documents that the source tells
-abbrev pub RefusesTold : ℕ → Outcome → Option (List ℕ) → Type 0
-RefusesTold pages outcome left = (docs : List Doc) × Tells left docs × Refuses pages outcome docs

@@ -9,32 +9,34 @@ use Rattle.tantivy_sstable.specs.Opening.{version_of, is_known, is_compressed_at
 use Rattle.term_documents.specs.declared.documents.Doc.{Doc}
 use Rattle.term_documents.specs.Law.{satisfying, AnswersPrinted}
 use Rattle.index_file.specs.IndexFile.{IsIndexOf}
-use Rattle.index_file.specs.Opening.{IsDamaged}
+use Rattle.index_file.specs.Opening.{CanBeOpened, IsDamaged}
 use Rattle.index_writing.specs.Writes.{AppendsIndex, AppendsPart}
 use Rattle.term_search.specs.declared.answer.Kind.TheVariants as kind
 use Rattle.term_search.specs.Leaves.{has_waiting_leaf}
-use Rattle.term_search.specs.Searching.{IsTaken, CanBeSearched, IsUnsupported, IsOfLater}
+use Rattle.term_search.specs.Searching.{IsTaken, IsSearched, CanBeSearched, IsUnsupported, IsOfLater}
 use Rattle.term_index.specs.declared.outcome.Outcome.{Outcome}
 use Rattle.term_index.specs.declared.outcome.Outcome.TheVariants.{Done, NotYet, InputTooLong, BadInput, TooManyDocuments, BadField, KeyTooLong, ArenaFull, Query, TooDeep, UnsupportedSlop, UnsupportedRegex, Version, Corrupt, Compressed, InFault, StoreFault, ReadFault, OutFault, Memory}
 use Rattle.term_index.specs.Commands.{Command, build, search, ask, tree, generate}
 use Rattle.term_index.specs.Printing.{lines, tree_line}
-use Rattle.term_index.specs.Refusals.{Tells, AreKept, Unread, RefusesTold}
+use Rattle.term_index.specs.Refusals.{Tells, AreKept, Unread, Refuses}
 
 -- ---- build
 
--- An index of the told documents was appended to the store; at a fault of the store and for want of memory a part of one.
+-- What writing an index of the documents to a store says of them and of the store.
+abbrev pub Stores : ℕ → Outcome → List Doc → Option (List ℕ) → Option (List ℕ) → Type 0
+Stores pages Done docs old new = AppendsIndex docs pages old new
+Stores pages StoreFault docs old new = AppendsPart docs pages old new
+Stores pages Memory docs old new = Keeps old new ⊎ AppendsPart docs pages old new
+Stores pages outcome docs old new = Refuses pages outcome docs × Keeps old new
+
+-- An index of the documents that the source tells was appended to the store. At a fault of the store and for want of memory
+-- it is a part of one, and else nothing.
 abbrev pub Builds : ℕ → Outcome → Option (List ℕ) → Option (List ℕ) → Option (List ℕ) → Type 0
-Builds pages Done left old new = (docs : List Doc) × Tells left docs × AppendsIndex docs pages old new
-Builds pages StoreFault left old new = (docs : List Doc) × Tells left docs × AppendsPart docs pages old new
-Builds pages Memory left old new = Keeps old new ⊎ ((docs : List Doc) × Tells left docs × AppendsPart docs pages old new)
-Builds pages InFault left old new = Keeps old new
+Builds pages InFault left old new = Unread InFault left × Keeps old new
 Builds pages InputTooLong left old new = Unread InputTooLong left × Keeps old new
 Builds pages BadInput left old new = Unread BadInput left × Keeps old new
-Builds pages TooManyDocuments left old new = RefusesTold pages TooManyDocuments left × Keeps old new
-Builds pages (BadField doc pair) left old new = RefusesTold pages (BadField doc pair) left × Keeps old new
-Builds pages (KeyTooLong doc pair) left old new = RefusesTold pages (KeyTooLong doc pair) left × Keeps old new
-Builds pages ArenaFull left old new = RefusesTold pages ArenaFull left × Keeps old new
-Builds pages _ left old new = ⊥
+Builds pages Memory left old new = Keeps old new ⊎ ((docs : List Doc) × Tells left docs × AppendsPart docs pages old new)
+Builds pages outcome left old new = (docs : List Doc) × Tells left docs × Stores pages outcome docs old new
 
 -- ---- search
 
@@ -42,7 +44,8 @@ Builds pages _ left old new = ⊥
 -- a printed plain expression, of those that mean it.
 pub record Finds (query field : List ℕ) (file : Option (List ℕ)) (ids : List ℕ) : Type 0 where
   pub tree : UserInputAst
-  pub tree_is : tree_of query ≡ grammar.Tree tree
+  pub searched : IsSearched query tree
+  pub opened : IfSome file CanBeOpened
   pub satisfying : IfSome file (λ bytes. (docs : List Doc) → IsIndexOf bytes docs → ids ≡ satisfying docs tree field)
   pub meaning : IfSome file (λ bytes. (docs : List Doc) → IsIndexOf bytes docs → AnswersPrinted docs query ids)
 
@@ -84,39 +87,49 @@ Searches field query _ file old new = ⊥
 abbrev pub ask_pages : ℕ
 ask_pages = 4096
 
--- the told documents, which an index keeps
-pub record Kept (left : Option (List ℕ)) (docs : List Doc) : Type 0 where
-  pub told : Tells left docs
-  pub kept : AreKept ask_pages docs
-
--- the numbers of those of these documents that satisfy the query's tree, and, where the query is a printed plain expression, of those that mean it
+-- An index can keep the documents, and the numbers are those of the documents that satisfy the query's tree, and, where the
+-- query is a printed plain expression, of those that mean it.
 pub record FindsIn (query field : List ℕ) (docs : List Doc) (ids : List ℕ) : Type 0 where
+  pub kept : AreKept ask_pages docs
   pub tree : UserInputAst
-  pub tree_is : tree_of query ≡ grammar.Tree tree
+  pub searched : IsSearched query tree
   pub satisfying : ids ≡ satisfying docs tree field
   pub meaning : AnswersPrinted docs query ids
+
+-- the lines of such numbers were appended, or a part of them
+abbrev pub AppendsFound : List ℕ → List ℕ → List Doc → Option (List ℕ) → Option (List ℕ) → Type 0
+AppendsFound query field docs old new = (ids : List ℕ) × FindsIn query field docs ids × Appends old new (lines ids)
+
+abbrev pub AppendsPartFound : List ℕ → List ℕ → List Doc → Option (List ℕ) → Option (List ℕ) → Type 0
+AppendsPartFound query field docs old new = (ids : List ℕ) × FindsIn query field docs ids × AppendsPrefix old new (lines ids)
 
 -- the query's tree has a leaf that is still to be learned
 abbrev pub IsLaterQuery : List ℕ → Type 0
 IsLaterQuery query = (tree : UserInputAst) × IsTaken query tree × (has_waiting_leaf tree ≡ true)
 
+-- What a question about documents says of them, of the query and of the output.
+abbrev pub AsksAbout : List ℕ → List ℕ → Outcome → List Doc → Option (List ℕ) → Option (List ℕ) → Type 0
+AsksAbout field query Done docs old new = AppendsFound query field docs old new
+AsksAbout field query OutFault docs old new = AppendsPartFound query field docs old new
+AsksAbout field query Memory docs old new = Keeps old new ⊎ AppendsPartFound query field docs old new
+AsksAbout field query NotYet docs old new = AreKept ask_pages docs × IsLaterQuery query × Keeps old new
+AsksAbout field query Query docs old new = AreKept ask_pages docs × RefusesQuery Query query × Keeps old new
+AsksAbout field query TooDeep docs old new = AreKept ask_pages docs × RefusesQuery TooDeep query × Keeps old new
+AsksAbout field query UnsupportedSlop docs old new = AreKept ask_pages docs × RefusesQuery UnsupportedSlop query × Keeps old new
+AsksAbout field query UnsupportedRegex docs old new = AreKept ask_pages docs × RefusesQuery UnsupportedRegex query × Keeps old new
+AsksAbout field query outcome docs old new = Refuses ask_pages outcome docs × Keeps old new
+
+-- why there is no index of the documents
+abbrev pub NotKept : Outcome → List Doc → Type 0
+NotKept Memory docs = Unit {0}
+NotKept outcome docs = Refuses ask_pages outcome docs
+
 abbrev pub Asks : List ℕ → List ℕ → Outcome → Option (List ℕ) → Option (List ℕ) → Option (List ℕ) → Type 0
-Asks field query Done left old new = (docs : List Doc) × (ids : List ℕ) × Kept left docs × FindsIn query field docs ids × Appends old new (lines ids)
-Asks field query OutFault left old new = (docs : List Doc) × (ids : List ℕ) × Kept left docs × FindsIn query field docs ids × AppendsPrefix old new (lines ids)
-Asks field query Memory left old new = Keeps old new ⊎ ((docs : List Doc) × (ids : List ℕ) × Kept left docs × FindsIn query field docs ids × AppendsPrefix old new (lines ids))
-Asks field query NotYet left old new = (docs : List Doc) × Kept left docs × IsLaterQuery query × Keeps old new
-Asks field query Query left old new = (docs : List Doc) × Kept left docs × RefusesQuery Query query × Keeps old new
-Asks field query TooDeep left old new = (docs : List Doc) × Kept left docs × RefusesQuery TooDeep query × Keeps old new
-Asks field query UnsupportedSlop left old new = (docs : List Doc) × Kept left docs × RefusesQuery UnsupportedSlop query × Keeps old new
-Asks field query UnsupportedRegex left old new = (docs : List Doc) × Kept left docs × RefusesQuery UnsupportedRegex query × Keeps old new
-Asks field query InFault left old new = Keeps old new
+Asks field query InFault left old new = Unread InFault left × Keeps old new
 Asks field query InputTooLong left old new = Unread InputTooLong left × Keeps old new
 Asks field query BadInput left old new = Unread BadInput left × Keeps old new
-Asks field query TooManyDocuments left old new = RefusesTold ask_pages TooManyDocuments left × Keeps old new
-Asks field query (BadField doc pair) left old new = RefusesTold ask_pages (BadField doc pair) left × Keeps old new
-Asks field query (KeyTooLong doc pair) left old new = RefusesTold ask_pages (KeyTooLong doc pair) left × Keeps old new
-Asks field query ArenaFull left old new = RefusesTold ask_pages ArenaFull left × Keeps old new
-Asks field query _ left old new = ⊥
+Asks field query Memory left old new = Keeps old new ⊎ ((docs : List Doc) × Tells left docs × AppendsPartFound query field docs old new)
+Asks field query outcome left old new = (docs : List Doc) × Tells left docs × AsksAbout field query outcome docs old new
 
 -- ---- tree
 

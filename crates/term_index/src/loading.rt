@@ -2,7 +2,7 @@
 ghost use Rattle.std.specs.Prelude.{◌≡◌, ◌≤◌, IfOk, IfErr, OnOk, Err};
 ghost use Rattle.std.specs.Io.KnownBytes.{IsAtEnd};
 ghost use Rattle.owned_bytes.specs.Outside.{HasCause};
-ghost use Rattle.term_index.specs.Refusals.{TellDocuments, Unread, TakenPast, input_limit};
+ghost use Rattle.term_index.specs.Refusals.{Tells, Unread, TakenPast, input_limit};
 
 use crate::{DocumentsError, InputError, Outcome, read_documents, read_input};
 use owned_bytes::Source;
@@ -11,7 +11,7 @@ use term_documents::Doc;
 
 /// The documents of a source, which is read to its end, or how the command ends.
 pub fn load<S: Source>(alloc: Global, source: &mut S) -> Result<Vec<Doc>, Outcome>
-    ensures told { IfOk result (λ docs. TellDocuments (S.left source.old) docs.items) }
+    ensures told { IfOk result (λ docs. Tells (S.left source.old) docs.items) }
     ensures end { OnOk result (IsAtEnd (S.left source.new)) }
     ensures unread { IfErr result (λ outcome. Unread outcome (S.left source.old)) }
     ensures cause { HasCause (S.faults source.old) (S.faults source.new) (result ≡ Err Outcome.InFault) }
