@@ -110,6 +110,14 @@ impl<T: ValueReader> DeltaReader<T> {
         }
     }
 
+    /// A reader without entries.
+    pub fn empty(alloc: Global) -> Self
+        ensures fresh { IsFresh (walk T.loaded result) [] 0 }
+        ensures entries { entries_left T.codec None (walk T.loaded result) ≡ Some [] }
+    {
+        Self::new(alloc, OwnedBytes::empty(alloc).unwrap(), 0)
+    }
+
     // Goes to the next entry of the block.
     fn advance_within(&mut self) -> Result<bool, BlockError>
         requires { (walk T.loaded self.old).failed ≡ None }

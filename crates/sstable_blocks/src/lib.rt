@@ -5,6 +5,7 @@
 //! that it adds: in one byte `keep + 16 * add` where both are below 16, else as byte 1 and two `vint`s; then the bytes.
 #![tactic(auto)]
 
+mod block_addr;
 mod block_reader;
 mod delta_reader;
 mod delta_writer;
@@ -13,6 +14,7 @@ mod range;
 mod value;
 pub mod vint;
 
+pub use block_addr::BlockAddr;
 pub use block_reader::BlockReader;
 pub use delta_reader::DeltaReader;
 pub use delta_writer::DeltaWriter;

@@ -73,6 +73,8 @@ fn entries_of_a_block(rt: HostRuntime) -> Result<(), Fail> {
         assert_eq!(rt; reader.value().end, end);
     }
     assert!(rt; !reader.advance()?);
+    let mut empty: DeltaReader<RangeValueReader> = DeltaReader::empty(rt.alloc());
+    assert!(rt; !empty.advance()?);
     Ok(())
 }
 

@@ -7,3 +7,6 @@ pub mod Seeking
 pub mod Keeping
 pub mod Inserting
 pub mod Finishing
+pub mod RangeTables
+pub mod Standing
+pub mod Fetching

@@ -12,5 +12,6 @@ pub mod Reading
 pub mod Reader
 pub mod Making
 pub mod Writer
+pub mod Laws
 pub mod Computes
 pub mod Rows

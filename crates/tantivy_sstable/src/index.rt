@@ -1,14 +1,7 @@
 // The index of a table's blocks.
 ghost use Rattle.std.specs.Prelude.{◌≡◌};
 
-use std::ops::Range;
-
-/// Where a block stands in its table, and the position of its first key.
-#[derive(Debug, PartialEq, Eq, Drop)]
-pub struct BlockAddr {
-    pub first_ordinal: u64,
-    pub byte_range: Range<usize>,
-}
+use sstable_blocks::BlockAddr;
 
 /// Where the blocks of a table are.
 #[derive(Debug, Drop)]

@@ -1,2 +1,2 @@
-pub mod Expressions
-pub mod Printed
+pub mod Leaves
+pub mod Searching

@@ -1,11 +1,12 @@
-//! Documents, expressions over them, and the search for the documents that hold every pair of a list.
+//! The search of an index file for the documents that satisfy a query.
 #![tactic(auto)]
 
-mod ask;
-#[cfg(test)]
-mod tests;
+mod answer;
+mod search;
 
-pub use ask::ask_pairs;
+pub use answer::{Answer, Kind, SearchError};
+pub use search::search_index;
 pub use term_documents::{
-    Bound, Doc, Expr, Fault, Pair, Pairs, PlacedFault, are_valid, documents_size, first_fault,
+    Bound, Doc, Expr, Fault, Pair, Pairs, PlacedFault, are_valid, documents_size, expr_depth,
+    first_fault, is_plain, print_expr,
 };

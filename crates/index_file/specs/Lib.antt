@@ -1,0 +1,6 @@
+pub mod Header
+pub mod IndexFile
+pub mod Opening
+pub mod Search
+pub mod Computes
+pub mod Rows

@@ -1,0 +1,9 @@
+//! Writes an index file of documents.
+#![tactic(auto)]
+
+mod errors;
+mod gather;
+mod write;
+
+pub use errors::WriteError;
+pub use write::write_index;

@@ -1,0 +1,121 @@
+-- What a search answers.
+use Rattle.std.specs.Prelude.{◌≡◌, ◌≢◌, ℕ, ◌+◌, ◌*◌, ◌<◌, ◌≤◌, List, length, true, false, Option, Some, None, Result, Ok, Err, ⊤, ◌⊎◌}
+use Rattle.query_tree.specs.declared.tree.UserInputAst.{UserInputAst}
+use Rattle.query_tree.specs.Grammar.{max_levels}
+use Rattle.query_tree.specs.Answer as grammar
+use Rattle.query_tree.specs.Answer.{tree_of}
+use Rattle.query_tree.specs.Printing as printing
+use Rattle.tantivy_sstable.specs.Opening.{version_of, is_known, is_compressed_at}
+use Rattle.term_documents.specs.declared.documents.Doc.{Doc}
+use Rattle.term_documents.specs.Satisfies.{satisfies}
+use Rattle.term_documents.specs.Meaning.{means}
+use Rattle.term_documents.specs.Law.{IsPrinted, AnswersPrinted, satisfying}
+use Rattle.index_file.specs.IndexFile.{table_of, IsIndexOf}
+use Rattle.index_file.specs.Opening.{CanBeOpened, IsDamaged, is_waiting_file}
+use Rattle.index_file.specs.Search.{units, asked, cost}
+use Rattle.term_search.specs.Leaves.{first_unsupported, IsSupported, has_waiting_leaf, IsReady}
+use Rattle.term_search.specs.declared.answer.Kind.{Kind}
+use Rattle.term_search.specs.declared.answer.Answer.{Answer}
+use Rattle.term_search.specs.declared.answer.SearchError.{SearchError}
+use Rattle.term_search.specs.declared.answer.SearchError.TheVariants.{Memory, Query, TooDeep, Unsupported, NotYet, Version, Corrupt, Compressed, Read}
+
+-- ---- by the query
+
+-- the query is this tree, of which a search takes every leaf
+pub record IsTaken (query : List ℕ) (tree : UserInputAst) : Type 0 where
+  pub tree_is : tree_of query ≡ grammar.Tree tree
+  pub supported : IsSupported tree
+
+-- and there is none that is still to be learned
+pub record IsSearched (query : List ℕ) (tree : UserInputAst) : Type 0 where
+  pub taken : IsTaken query tree
+  pub ready : IsReady tree
+
+-- the query is a tree that is searched for
+abbrev pub CanBeSearched : List ℕ → Type 0
+CanBeSearched query = (tree : UserInputAst) × IsSearched query tree
+
+-- the query is a tree whose first leaf that no search takes is of this kind
+abbrev pub IsUnsupported : List ℕ → Kind → Type 0
+IsUnsupported query kind = (tree : UserInputAst) × (tree_of query ≡ grammar.Tree tree) × (first_unsupported tree ≡ Some kind)
+
+-- What an answer tells of its query. One that is refused has no other answer, but for want of memory.
+abbrev pub AnswersQuery : List ℕ → Result Answer SearchError → Type 0
+AnswersQuery query (Ok answer) = IsSearched query answer.tree
+AnswersQuery query (Err Memory) = ⊤
+AnswersQuery query (Err (Query error)) = tree_of query ≡ grammar.Refused
+AnswersQuery query (Err TooDeep) = tree_of query ≡ grammar.TooDeep
+AnswersQuery query (Err (Unsupported kind)) = IsUnsupported query kind
+AnswersQuery query (Err NotYet) = (tree : UserInputAst) × IsTaken query tree
+AnswersQuery query (Err (Version version)) = CanBeSearched query
+AnswersQuery query (Err Corrupt) = CanBeSearched query
+AnswersQuery query (Err (Compressed place)) = CanBeSearched query
+AnswersQuery query (Err Read) = CanBeSearched query
+
+-- What an answer tells of a printed plain expression. Each document satisfies the answer's tree exactly where it means the
+-- expression, whatever the default field is. The expression is never refused, and too deep exactly past the greatest depth.
+abbrev pub AnswersExpression : List ℕ → Result Answer SearchError → Type 0
+AnswersExpression query (Ok answer) = (e : printing.Expression) → IsPrinted query e
+    → (printing.depth e ≤ max_levels) × ((doc : Doc) (default : List ℕ) → satisfies doc answer.tree default ≡ means doc e)
+AnswersExpression query (Err (Query error)) = (e : printing.Expression) → IsPrinted query e → ⊥
+AnswersExpression query (Err TooDeep) = (e : printing.Expression) → IsPrinted query e → max_levels < printing.depth e
+AnswersExpression query (Err _) = ⊤
+
+-- ---- by the file
+
+-- Its numbers are those of the documents of which the file is an index: of those that satisfy the tree, and, where the query
+-- is a printed plain expression, of those that mean it.
+pub record FindsDocuments (file query default : List ℕ) (answer : Answer) : Type 0 where
+  pub opened : CanBeOpened file
+  pub satisfying : (docs : List Doc) → IsIndexOf file docs → answer.ids ≡ satisfying docs answer.tree default
+  pub meaning : (docs : List Doc) → IsIndexOf file docs → AnswersPrinted docs query answer.ids
+
+-- the query's tree has a leaf that is still to be learned, or the file is of a kind that is
+abbrev pub IsOfLater : List ℕ → List ℕ → Type 0
+IsOfLater file query = ((tree : UserInputAst) × IsTaken query tree × (has_waiting_leaf tree ≡ true)) ⊎ (is_waiting_file file ≡ true)
+
+-- What an answer tells of its file.
+abbrev pub AnswersFile : List ℕ → List ℕ → List ℕ → Result Answer SearchError → Type 0
+AnswersFile file query default (Ok answer) = FindsDocuments file query default answer
+AnswersFile file query default (Err NotYet) = IsOfLater file query
+AnswersFile file query default (Err (Version version)) = (version_of file ≡ Some version) × (is_known version ≡ false)
+AnswersFile file query default (Err Corrupt) = IsDamaged file
+AnswersFile file query default (Err (Compressed place)) = IsDamaged file × (is_compressed_at place file ≡ true)
+AnswersFile file query default (Err _) = ⊤
+
+-- the same, where the contents are told
+abbrev pub AnswersTold : Option (List ℕ) → List ℕ → List ℕ → Result Answer SearchError → Type 0
+AnswersTold None query default result = ⊤
+AnswersTold (Some file) query default result = AnswersFile file query default result
+
+-- the told contents are a file that has a table and can be opened
+abbrev pub IsWhole : Option (List ℕ) → Type 0
+IsWhole None = ⊥
+IsWhole (Some file) = (table_of file ≢ None) × CanBeOpened file
+
+-- an answer, but for want of memory and a fault
+abbrev pub IsAnsweredOrRead : Result Answer SearchError → Type 0
+IsAnsweredOrRead (Ok answer) = ⊤
+IsAnsweredOrRead (Err error) = (error ≡ Memory) ⊎ (error ≡ Read)
+
+-- damaged, but for want of memory
+abbrev pub IsDamagedOrMemory : Result Answer SearchError → Type 0
+IsDamagedOrMemory (Ok answer) = ⊥
+IsDamagedOrMemory (Err error) = (error ≡ Memory) ⊎ (error ≡ Corrupt)
+
+-- ---- counts
+
+-- A count of reads does not fall, and rises by at most 4 and two for each that the tree asks the file for.
+pub record ReadsFor (query default : List ℕ) (before now : ℕ) : Type 0 where
+  pub later : before ≤ now
+  pub bound : (tree : UserInputAst) → tree_of query ≡ grammar.Tree tree → now ≤ before + (4 + 2 * length (asked tree default))
+
+-- and so by at most 4 and two for each unit of the tree
+abbrev pub ReadsWithin : List ℕ → ℕ → ℕ → Type 0
+ReadsWithin query before now = (tree : UserInputAst) → tree_of query ≡ grammar.Tree tree → now ≤ before + (4 + 2 * units tree)
+
+-- A count of bytes does not fall, and on a told file with a table it rises by at most what the search may cost.
+pub record Fetches (contents : Option (List ℕ)) (query default : List ℕ) (before now : ℕ) : Type 0 where
+  pub later : before ≤ now
+  pub bound : (file : List ℕ) (tree : UserInputAst) (most : ℕ) → contents ≡ Some file → table_of file ≢ None
+      → tree_of query ≡ grammar.Tree tree → cost file tree default ≡ Some most → now ≤ before + most
