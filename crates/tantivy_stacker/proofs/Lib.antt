@@ -17,3 +17,4 @@ pub mod Mutating
 pub mod MapFacts
 pub mod Iterating
 pub mod Listing
+pub mod BesideFacts

@@ -5,3 +5,4 @@ pub mod Maps
 pub mod Probes
 pub mod PageLending
 pub mod Lending
+pub mod Beside

@@ -1,6 +1,10 @@
 // Worked rows.
+ghost use Rattle.std.specs.Prelude.{OnOk};
+ghost use Rattle.tantivy_stacker.specs.Beside.{AreBeside};
+
 use crate::hash::get_hash;
-use crate::{ArenaError, ArenaHashMap, ExpUnrolledLinkedList, MemoryArena};
+use crate::{ArenaError, ArenaHashMap, ExpUnrolledLinkedList, MemoryArena, SharedArenaHashMap};
+use std::alloc::{AllocError, Global};
 use std::test::Fail;
 
 #[test]
@@ -24,6 +28,7 @@ fn a_whole_page_and_one_more_byte(rt: HostRuntime) -> Result<(), Fail> {
 }
 
 #[test]
+#[tactic(auto, using(crate::proofs::BesideFacts::held_if_empty))]
 fn parts_of_a_list(rt: HostRuntime) -> Result<(), Fail> {
     let mut arena = MemoryArena::new(rt.alloc())?;
     let mut list = ExpUnrolledLinkedList::default();
@@ -54,13 +59,14 @@ fn a_key_that_begins_another(rt: HostRuntime) -> Result<(), Fail> {
 #[test]
 fn keys_of_all_lengths(rt: HostRuntime) -> Result<(), Fail> {
     let long = vec![in rt.alloc(); 7u8; 70_000]?;
+    let cut = &long[..65_535];
     let mut map: ArenaHashMap<u32> = ArenaHashMap::new(rt.alloc())?;
     map.mutate_or_create(b"", |_| 1)?;
-    map.mutate_or_create(&long[..65_535], |_| 2)?;
+    map.mutate_or_create(cut, |_| 2)?;
     map.mutate_or_create(&long, |before| before.unwrap_or(0).saturating_add(1))?;
     assert_eq!(rt; map.len(), 2);
     assert_eq!(rt; map.get(b""), Some(1));
-    assert_eq!(rt; map.get(&long[..65_535]), Some(3));
+    assert_eq!(rt; map.get(cut), Some(3));
     assert_eq!(rt; map.get(&long), None);
     Ok(())
 }
@@ -73,5 +79,83 @@ fn two_keys_of_one_hash(rt: HostRuntime) -> Result<(), Fail> {
     map.mutate_or_create(b"k152289", |_| 2)?;
     assert_eq!(rt; map.get(b"k127804"), Some(1));
     assert_eq!(rt; map.get(b"k152289"), Some(2));
+    Ok(())
+}
+
+#[tactic(auto, using(crate::proofs::BesideFacts::beside_after_list))]
+fn add_bytes(
+    arena: &mut MemoryArena,
+    list: &mut ExpUnrolledLinkedList,
+    map: &SharedArenaHashMap<u32>,
+    bytes: &[u8],
+) -> Result<(), ArenaError>
+    requires { AreBeside 4 arena.old list.old map.now }
+    ensures { OnOk result (AreBeside 4 arena.new list.new map.now) }
+{
+    list.append(arena, bytes)
+}
+
+#[tactic(auto, using(crate::proofs::BesideFacts::beside_after_map))]
+fn add_entry(
+    arena: &mut MemoryArena,
+    list: &ExpUnrolledLinkedList,
+    map: &mut SharedArenaHashMap<u32>,
+    number: u32,
+) -> Result<(), ArenaError>
+    requires { AreBeside 4 arena.old list.now map.old }
+    ensures { OnOk result (AreBeside 4 arena.new list.now map.new) }
+{
+    map.mutate_or_create(&number.to_le_bytes(), arena, |_| number)?;
+    Ok(())
+}
+
+fn add_both(
+    arena: &mut MemoryArena,
+    list: &mut ExpUnrolledLinkedList,
+    map: &mut SharedArenaHashMap<u32>,
+    number: u8,
+) -> Result<(), ArenaError>
+    requires { AreBeside 4 arena.old list.old map.old }
+    ensures { OnOk result (AreBeside 4 arena.new list.new map.new) }
+{
+    add_bytes(arena, list, map, &[number; 100])?;
+    add_entry(arena, list, map, u32::from(number))
+}
+
+// The bytes of the list, and how many of the numbers below 40 the map has.
+fn counted(
+    alloc: Global,
+    arena: &MemoryArena,
+    list: &ExpUnrolledLinkedList,
+    map: &SharedArenaHashMap<u32>,
+) -> Result<(Vec<u8>, usize), AllocError>
+    requires { AreBeside 4 arena.now list.now map.now }
+{
+    let mut bytes = Vec::new(alloc);
+    list.read_to_end(arena, &mut bytes)?;
+    let found = (0..40u32)
+        .filter(|number| map.get(&number.to_le_bytes(), arena) == Some(*number))
+        .count();
+    Ok((bytes, found))
+}
+
+// The list takes nine blocks, and the map doubles five times.
+#[test]
+#[tactic(auto, using(crate::proofs::BesideFacts::empty_beside_empty))]
+fn a_list_and_a_map_grow_in_one_arena(rt: HostRuntime) -> Result<(), Fail> {
+    let mut arena = MemoryArena::new(rt.alloc())?;
+    let mut list = ExpUnrolledLinkedList::default();
+    let mut map: SharedArenaHashMap<u32> = SharedArenaHashMap::with_capacity(rt.alloc(), 4)?;
+    for number in 0..40u8 {
+        add_both(&mut arena, &mut list, &mut map, number)?;
+    }
+    let (bytes, found) = counted(rt.alloc(), &arena, &list, &map)?;
+    assert_eq!(rt; found, 40);
+    assert_eq!(rt; bytes.len(), 4000);
+    for number in 0..40u8 {
+        let first = usize::from(number) * 100;
+        assert_eq!(rt; bytes.get(first), Some(&number));
+        assert_eq!(rt; bytes.get(first + 99), Some(&number));
+    }
     Ok(())
 }

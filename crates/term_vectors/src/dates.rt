@@ -38,6 +38,7 @@ fn two_dates(alloc: Global) -> Result<Vec<DateTime>, AllocError>
 fn a_pair_of_dates(rt: HostRuntime) -> Result<(), Fail> {
     let pair = (early(), late());
     let bytes = bytes_of(rt.alloc(), &pair)?;
+    assert_eq!(rt; bytes.len(), 16);
     assert_eq!(rt; bytes[..8], [255; 8][..]);
     assert_eq!(rt; bytes[8..], [2, 0, 0, 0, 0, 0, 0, 0][..]);
     assert_eq!(rt; pair.num_bytes(), 16);
