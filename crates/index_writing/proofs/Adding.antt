@@ -22,7 +22,7 @@ use Rattle.term_documents.specs.declared.documents.Pair.{Pair}
 use Rattle.term_documents.specs.declared.documents.Doc.{Doc}
 use Rattle.term_documents.specs.Postings.{key_of, numbers_of}
 use Rattle.index_writing.specs.Gathering.{listed, ends_with, with_number, numbers_at, Tells}
-use Rattle.index_writing.proofs.Numbers.{has, numbers-with, numbers-without, numbers-below}
+use Rattle.index_writing.proofs.Numbering.{has, numbers-with, numbers-without, numbers-below}
 
 equal-eq : (o : Ordering) → is_equal o ≡ is_eq o
 equal-eq Less = refl

@@ -1,0 +1,1 @@
+-- The bytes that were made are an index file.
