@@ -1,11 +1,11 @@
 -- What holds of the entries that valid documents gather to.
-use Rattle.std.proofs.Common.{◌≡◌, ℕ, zero, suc, ◌+◌, ◌*◌, ◌^◌, ◌<◌, ◌≤◌, Bool, true, false, not, ◌&&◌, ◌||◌, List, [], ◌∷◌, ◌++◌, length, Some, None, All, refl, sym, ap, subst, ◌∙◌, arith, eqb, inl, inr}
-use Rattle.std.specs.Prelude.{map, sum_by, nat_lt, nat_le}
+use Rattle.std.proofs.Common.{◌≡◌, ℕ, zero, suc, ◌+◌, ◌*◌, ◌^◌, ◌<◌, ◌≤◌, Bool, true, false, not, ◌||◌, List, [], ◌∷◌, ◌++◌, length, Some, None, All, refl, sym, ap, subst, ◌∙◌, arith, eqb, rules, length-append}
+use Rattle.std.specs.Prelude.{map, sum_by, nat_lt, cond}
 use Rattle.std.specs.List.{flat_map, list_all, list_any, AllByRecursion}
 use Rattle.std.specs.List.Sorted.{IsStrictlySortedBy}
-use Rattle.std.proofs.lemmas.Bool.{and_from, lt-ltb, le-leb, ne_eqb}
+use Rattle.std.proofs.lemmas.Bool.{and_from, lt-ltb, le-leb, ne_eqb, eq-eqb}
 use Rattle.std.proofs.lemmas.List.Elements.{All-head, All-tail, All-append}
-use Rattle.std.proofs.lemmas.List.Sums.{sum_by-append, list_all-from_AllPass}
+use Rattle.std.proofs.lemmas.List.Sums.{sum_by-append, sum_by-cons, list_all-from_AllPass}
 use Rattle.owned_bytes.specs.Front.{◌>>=◌}
 use Rattle.owned_bytes.specs.Keys.{Key, is_same, is_below, is_less}
 unfoldable use Rattle.owned_bytes.specs.Keys.{is_rising, with_key, key_set}
@@ -16,12 +16,13 @@ use Rattle.term_documents.specs.Documents.{IsField, IsValidPair, AreValidDocumen
 use Rattle.term_documents.specs.Postings as postings
 unfoldable use Rattle.term_documents.specs.Postings.{gather}
 use Rattle.index_file.specs.IndexFile.{is_pair, is_key, is_posting}
-unfoldable use Rattle.index_file.specs.IndexFile.{parted, is_increasing}
+unfoldable use Rattle.index_file.specs.IndexFile.{parted, adjoin}
+use Rattle.index_writing.specs.Gathering.{listed}
 use Rattle.index_writing.specs.Emitting.{numbers_of_all}
 unfoldable use Rattle.index_writing.specs.Emitting.{ranged}
 use Rattle.index_writing.proofs.Numbering.{has, numbers-below, numbers-rise}
-use Rattle.index_writing.proofs.Adding.{same-bytes, listed-back}
-use Rattle.index_writing.proofs.Gathered.{cmp, paired, all-with, key_set-sorted}
+use Rattle.index_writing.proofs.Adding.{same-bytes}
+use Rattle.index_writing.proofs.Gathered.{cmp, paired, all-with, key_set-sorted, listed-chosen}
 
 -- the keys of all pairs of the documents
 abbrev pub keys_in : List Doc → List Key
@@ -104,3 +105,126 @@ had-docs (doc ∷ docs) =
     all-append (λ key. had key (doc ∷ docs) ≡ true) (map postings.key_of doc.pairs) (keys_in docs)
     (all-weaker (λ key. has key doc.pairs ≡ true) (λ key. had key (doc ∷ docs) ≡ true) (λ key e. or-left (has key doc.pairs) (had key docs) e) (map postings.key_of doc.pairs) (had-pairs doc.pairs))
     (all-weaker (λ key. had key docs ≡ true) (λ key. had key (doc ∷ docs) ≡ true) (λ key e. or-right (has key doc.pairs) (had key docs) e) (keys_in docs) (had-docs docs))
+
+-- ---- the entries
+
+rising-sorted : {V : Type 0} (f : Key → V) (keys : List Key) → IsStrictlySortedBy cmp keys → is_rising (map (λ entry. entry.0) (paired f keys)) ≡ true
+unfolding is_rising IsStrictlySortedBy
+rising-sorted f [] sorted = refl
+rising-sorted f (key ∷ []) sorted = refl
+rising-sorted f (key ∷ next ∷ keys) sorted =
+    and_from (is_below key next) (is_rising (next ∷ map (λ (entry : Key × _). entry.0) (paired f keys))) (ap is_less sorted.0.0) (rising-sorted f (next ∷ keys) sorted.1)
+
+some-listed : (ns : List ℕ) → listed ns ≡ Some ns → 0 < length ns
+some-listed [] e = absurd cc
+some-listed (n ∷ ns) e = omega arith
+
+numbers-some : (key : Key) (docs : List Doc) → had key docs ≡ true → 0 < length (postings.numbers_of key docs)
+numbers-some key docs is =
+    some-listed (postings.numbers_of key docs) (listed-chosen (λ doc. has key doc.pairs) 0 docs ∙ ap (λ b. cond b (Some (postings.numbers_of key docs)) None) is)
+
+posting-test : (docs : List Doc) (key : Key) → is_key key ≡ true → is_posting (length docs) (key, postings.numbers_of key docs) ≡ true
+posting-test docs key is =
+    and_from (is_key key) _ is (and_from _ _ (numbers-rise key docs) (list_all-from_AllPass (λ n. nat_lt n (length docs)) (postings.numbers_of key docs) (λ k d within. lt-ltb _ _ (numbers-below key docs k d within))))
+
+all-paired : {V : Type 0} (test : Key × V → Bool) (f : Key → V) (keys : List Key) → AllByRecursion (λ key. test (key, f key) ≡ true) keys → list_all test (paired f keys) ≡ true
+all-paired test f [] all = refl
+all-paired test f (key ∷ keys) all = and_from (test (key, f key)) (list_all test (paired f keys)) all.0 (all-paired test f keys all.1)
+
+pub adjoin-ranged : (start end : ℕ) (ps : List (Key × List ℕ)) → AllByRecursion (λ p. 0 < length p.1) ps → start + length (numbers_of_all ps) ≡ end
+    → adjoin start end (map (λ entry. entry.1) (ranged start ps)) ≡ true
+unfolding adjoin ranged
+adjoin-ranged start end [] some is = eq-eqb start end (omega (arith, is))
+adjoin-ranged start end (p ∷ ps) some is =
+    let first : 0 < length p.1 = some.0 in
+    let rest = adjoin-ranged (start + length p.1) end ps some.1 (omega (arith, is, length-append p.1 (numbers_of_all ps))) in
+    and_from (eqb start start) _ (eq-eqb start start refl) (and_from (nat_lt start (start + length p.1)) _ (lt-ltb start (start + length p.1) (omega (arith, first))) rest)
+
+fit-paired : (bound : ℕ) (f : Key → List ℕ) (keys : List Key) → ((key : Key) → All (λ n. n < bound) (f key)) → All (λ n. n < bound) (numbers_of_all (paired f keys))
+fit-paired bound f [] each = λ k d within. absurd (omega (arith, within))
+fit-paired bound f (key ∷ keys) each = All-append (λ n. n < bound) (f key) (numbers_of_all (paired f keys)) (each key) (fit-paired bound f keys each)
+
+some-paired : (f : Key → List ℕ) (keys : List Key) → AllByRecursion (λ key. 0 < length (f key)) keys → AllByRecursion (λ p. 0 < length p.1) (paired f keys)
+some-paired f [] all = tt
+some-paired f (key ∷ keys) all = (all.0, some-paired f keys all.1)
+
+-- ---- the size
+
+abbrev weight : Key → ℕ
+weight key = length key + 31
+
+size-paired : (start : ℕ) (f : Key → List ℕ) (keys : List Key) → keys_size (ranged start (paired f keys)) + 31 * length (ranged start (paired f keys)) ≡ sum_by weight keys
+unfolding ranged
+size-paired start f [] = omega arith
+size-paired start f (key ∷ keys) = omega (arith, size-paired (start + length (f key)) f keys, sum_by-cons weight key keys)
+
+sum-with : (key : Key) (keys : List Key) → sum_by weight (with_key key keys) ≤ weight key + sum_by weight keys
+unfolding with_key
+sum-with key [] = omega (arith, sum_by-cons weight key [])
+sum-with key (other ∷ keys) =
+    let rest = sum-with key keys in
+    let with_both = sum_by-cons weight key (other ∷ keys) in
+    let with_other = sum_by-cons weight other (with_key key keys) in
+    let with_others = sum_by-cons weight other keys in
+    elim (is_below key other) as (λ b. sum_by weight (cond b (key ∷ other ∷ keys) (cond (is_same key other) (other ∷ keys) (other ∷ with_key key keys))) ≤ weight key + sum_by weight (other ∷ keys)) [
+      | true ↦ omega (arith, with_both)
+      | false ↦ elim (is_same key other) as (λ b. sum_by weight (cond b (other ∷ keys) (other ∷ with_key key keys)) ≤ weight key + sum_by weight (other ∷ keys)) [
+        | true ↦ omega arith
+        | false ↦ omega (arith, rest, with_other, with_others)
+      ]
+    ]
+
+sum-set : (keys : List Key) → sum_by weight (key_set keys) ≤ sum_by weight keys
+unfolding key_set
+sum-set [] = omega arith
+sum-set (key ∷ keys) = omega (arith, sum-with key (key_set keys), sum-set keys, sum_by-cons weight key keys)
+
+sum-pairs : (pairs : List Pair) → sum_by weight (map postings.key_of pairs) ≤ sum_by pair_size pairs
+sum-pairs [] = omega arith
+sum-pairs (pair ∷ pairs) = omega (arith, sum-pairs pairs, length-append pair.field (0 ∷ pair.term), sum_by-cons weight (postings.key_of pair) (map postings.key_of pairs), sum_by-cons pair_size pair pairs)
+
+sum-docs : (docs : List Doc) → sum_by weight (keys_in docs) ≤ documents_size docs
+sum-docs [] = omega arith
+sum-docs (doc ∷ docs) = omega (arith, sum-docs docs, sum-pairs doc.pairs, sum_by-append weight (map postings.key_of doc.pairs) (keys_in docs), sum_by-cons (λ (doc : Doc). sum_by pair_size doc.pairs) doc docs)
+
+-- ---- the entries that documents gather to
+
+pub gathered-rising : (docs : List Doc) → is_rising (map (λ entry. entry.0) (gather docs).entries) ≡ true
+unfolding gather
+gathered-rising docs = rising-sorted (λ key. postings.numbers_of key docs) (key_set (keys_in docs)) (key_set-sorted (keys_in docs))
+
+pub gathered-some : (docs : List Doc) → AllByRecursion (λ p. 0 < length p.1) (gather docs).entries
+unfolding gather
+gathered-some docs =
+    some-paired (λ key. postings.numbers_of key docs) (key_set (keys_in docs))
+    (all-weaker (λ key. had key docs ≡ true) (λ key. 0 < length (postings.numbers_of key docs)) (λ key is. numbers-some key docs is) (key_set (keys_in docs)) (all-set (λ key. had key docs ≡ true) (keys_in docs) (had-docs docs)))
+
+pub gathered-postings : (docs : List Doc) → AreValidDocuments docs → list_all (is_posting (length docs)) (gather docs).entries ≡ true
+unfolding gather
+gathered-postings docs valid =
+    all-paired (is_posting (length docs)) (λ key. postings.numbers_of key docs) (key_set (keys_in docs))
+    (all-weaker (λ key. is_key key ≡ true) (λ key. is_posting (length docs) (key, postings.numbers_of key docs) ≡ true) (posting-test docs) (key_set (keys_in docs)) (all-set (λ key. is_key key ≡ true) (keys_in docs) (keys-docs docs valid.pairs)))
+
+pub gathered-fit : (docs : List Doc) (bound : ℕ) → length docs ≤ bound → All (λ n. n < bound) (numbers_of_all (gather docs).entries)
+unfolding gather
+gathered-fit docs bound few =
+    fit-paired bound (λ key. postings.numbers_of key docs) (key_set (keys_in docs)) (λ key k d within. let below = numbers-below key docs k d within in omega (arith, below, few))
+
+pub gathered-small : (docs : List Doc) → documents_size docs ≤ 900000 * 4096 → keys_size (ranged 0 (gather docs).entries) + 31 * length (ranged 0 (gather docs).entries) + 21 < 2 ^ 32
+unfolding gather
+gathered-small docs small =
+    let whole = size-paired 0 (λ key. postings.numbers_of key docs) (key_set (keys_in docs)) in
+    let kept = sum-set (keys_in docs) in
+    let all = sum-docs docs in
+    omega (arith, whole, kept, all, small)
+
+-- ---- the same of copies
+
+pub rising-at : (docs : List Doc) (ps : List (Key × List ℕ)) → ps ≡ (gather docs).entries → is_rising (map (λ entry. entry.0) ps) ≡ true
+rising-at docs ps is = subst (λ ps. is_rising (map (λ (entry : Key × List ℕ). entry.0) ps) ≡ true) (sym is) (gathered-rising docs)
+
+pub small-at : (docs : List Doc) (ps : List (Key × List ℕ)) → documents_size docs ≤ 900000 * 4096 → ps ≡ (gather docs).entries → keys_size (ranged 0 ps) + 31 * length (ranged 0 ps) + 21 < 2 ^ 32
+small-at docs ps small is = subst (λ ps. keys_size (ranged 0 ps) + 31 * length (ranged 0 ps) + 21 < 2 ^ 32) (sym is) (gathered-small docs small)
+
+pub fit-at : (docs : List Doc) (ps : List (Key × List ℕ)) (numbers : List ℕ) (bound : ℕ) → length docs ≤ bound → ps ≡ (gather docs).entries → numbers ≡ numbers_of_all ps → All (λ n. n < bound) numbers
+fit-at docs ps numbers bound few is all = subst (All (λ n. n < bound)) (sym (all ∙ ap numbers_of_all is)) (gathered-fit docs bound few)

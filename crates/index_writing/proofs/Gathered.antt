@@ -1,5 +1,5 @@
 -- A map that tells documents has the entries that they gather to.
-use Rattle.std.proofs.Common.{◌≡◌, ℕ, ◌+◌, Bool, true, false, cond, ◌||◌, List, [], ◌∷◌, ◌++◌, Option, Some, None, refl, sym, ap, subst, ◌∙◌, BTreeMap}
+use Rattle.std.proofs.Common.{◌≡◌, ℕ, ◌+◌, Bool, true, false, cond, ◌||◌, List, [], ◌∷◌, Some, None, refl, sym, ap, subst, ◌∙◌, BTreeMap}
 use Rattle.std.specs.Prelude.{map, filter, T}
 use Rattle.std.specs.List.{enumerate_from, list_any, flat_map, AllByRecursion}
 use Rattle.std.specs.List.Sorted.{IsStrictlySortedBy}
@@ -24,7 +24,6 @@ use Rattle.term_documents.specs.Postings as postings
 unfoldable use Rattle.term_documents.specs.Postings.{gather}
 use Rattle.index_writing.specs.Gathering.{listed, Tells}
 use Rattle.index_writing.proofs.Numbering.{has}
-use Rattle.index_writing.proofs.Adding.{same-by}
 
 abbrev pub cmp : Key → Key → Ordering
 cmp = slice_cmp nat_cmp
@@ -169,7 +168,7 @@ any-docs q (doc ∷ docs) =
     ∙ ap (λ b. b || list_any (is_at (cmp q)) (flat_map (λ (doc : Doc). map postings.key_of doc.pairs) docs)) (any-pairs q doc.pairs)
     ∙ ap (λ b. has q doc.pairs || b) (any-docs q docs)
 
-listed-chosen : (test : Doc → Bool) (start : ℕ) (docs : List Doc) → listed (map (λ (numbered : ℕ × Doc). numbered.0) (filter (λ (numbered : ℕ × Doc). test numbered.1) (enumerate_from start docs)))
+pub listed-chosen : (test : Doc → Bool) (start : ℕ) (docs : List Doc) → listed (map (λ (numbered : ℕ × Doc). numbered.0) (filter (λ (numbered : ℕ × Doc). test numbered.1) (enumerate_from start docs)))
     ≡ cond (list_any test docs) (Some (map (λ (numbered : ℕ × Doc). numbered.0) (filter (λ (numbered : ℕ × Doc). test numbered.1) (enumerate_from start docs)))) None
 listed-chosen test start [] = refl
 listed-chosen test start (doc ∷ docs) =

@@ -1,5 +1,5 @@
 -- Why a writer of ranges takes every entry that may come next, and finishes every block that is small enough.
-use Rattle.std.proofs.Common.{◌≡◌, ℕ, suc, ◌+◌, ◌*◌, ◌<◌, ◌≤◌, ◌^◌, Bool, true, false, List, [], ◌∷◌, ◌++◌, length, Option, Some, None, Result, Ok, Err, refl, sym, ap, subst, ◌∙◌, arith, take, drop, get_or, drop-cons, append-nil, length-append}
+use Rattle.std.proofs.Common.{◌≡◌, ℕ, suc, ◌+◌, ◌<◌, ◌≤◌, Bool, true, false, List, [], ◌∷◌, ◌++◌, length, Option, Some, Result, Ok, Err, refl, sym, ap, subst, ◌∙◌, arith, take, drop, get_or, drop-cons, append-nil, length-append}
 use Rattle.std.specs.Prelude.{OnOk, IsOk, IfOk, map}
 use Rattle.std.proofs.lemmas.Bool.{and_parts, eq-eqb}
 use Rattle.std.proofs.lemmas.Grind.{flat_map-append}
@@ -13,11 +13,11 @@ use Rattle.owned_bytes.proofs.InTurn.{never_fails}
 use Rattle.sstable_blocks.specs.Codec.{range}
 use Rattle.sstable_blocks.specs.Range.{ends_at, may_adjoin}
 use Rattle.sstable_blocks.specs.Run.{last_key, may_follow}
-use Rattle.tantivy_sstable.specs.Laws.{values_in, keys_size}
+use Rattle.tantivy_sstable.specs.Laws.{values_in}
 use Rattle.tantivy_sstable.specs.Making.{TableState, HasInserted, RefusesEntry, StopsTable, AppendsTable}
 use Rattle.tantivy_sstable.specs.declared.errors.SstWriteError.{SstWriteError}
 use Rattle.tantivy_sstable.specs.declared.errors.SstWriteError.TheVariants.{Memory, Write, Unsorted, ValueRefused, BlockTooLong, Spent}
-use Rattle.tantivy_sstable.proofs.RangeTables.{short-fit, adjoining-taken, last-ends}
+use Rattle.tantivy_sstable.proofs.RangeTables.{short-fit, adjoining-taken}
 use Rattle.index_writing.specs.Emitting.{numbers_of_all, CanInsert, CanFinish, GainsTable}
 unfoldable use Rattle.index_writing.specs.Emitting.{ranged}
 

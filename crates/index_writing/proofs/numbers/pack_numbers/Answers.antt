@@ -1,6 +1,6 @@
-use Rattle.std.proofs.Common.{◌≡◌, ◌∙◌, sym, ap, subst, ℕ, ◌+◌, ◌<◌, List, [], ◌∷◌, ◌++◌, length, take, get_or, Some, Option, arith}
+use Rattle.std.proofs.Common.{◌≡◌, ◌∙◌, sym, ap, subst, ℕ, ◌+◌, ◌<◌, List, [], ◌∷◌, ◌++◌, length, take, get_or, Some}
 use Rattle.std.proofs.lemmas.List.{take_more, take_all, map-append}
-use Rattle.tantivy_bitpacker.specs.Packed.{Bits, HasPacked, at_width, packed_pieces}
+use Rattle.tantivy_bitpacker.specs.Packed.{HasPacked, at_width, packed_pieces}
 use Rattle.index_writing.proofs.Inserts.{on-ok}
 use Rattle.index_writing.proofs.numbers.pack_numbers.Goals as goal
 

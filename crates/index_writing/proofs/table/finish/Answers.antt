@@ -1,4 +1,3 @@
-use Rattle.std.proofs.Common.{◌≡◌, ◌∙◌, refl, sym, ap, subst}
 use Rattle.index_writing.proofs.Inserts.{not-stopped}
 use Rattle.index_writing.proofs.table.finish.Goals as goal
 

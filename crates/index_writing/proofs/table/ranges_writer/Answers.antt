@@ -1,4 +1,4 @@
-use Rattle.std.proofs.Common.{◌≡◌, ◌∙◌, ◌+◌, refl, ap, arith}
+use Rattle.std.proofs.Common.{◌+◌, refl, ap, arith}
 unfoldable use Rattle.index_writing.specs.Emitting.{ranged}
 use Rattle.index_writing.proofs.Inserts.{can-insert, has-one-more, start-more, start-fits}
 use Rattle.index_writing.proofs.table.ranges_writer.Goals as goal
