@@ -28,7 +28,6 @@ fn a_whole_page_and_one_more_byte(rt: HostRuntime) -> Result<(), Fail> {
 }
 
 #[test]
-#[tactic(auto, using(crate::proofs::BesideFacts::held_if_empty))]
 fn parts_of_a_list(rt: HostRuntime) -> Result<(), Fail> {
     let mut arena = MemoryArena::new(rt.alloc())?;
     let mut list = ExpUnrolledLinkedList::default();
@@ -82,7 +81,6 @@ fn two_keys_of_one_hash(rt: HostRuntime) -> Result<(), Fail> {
     Ok(())
 }
 
-#[tactic(auto, using(crate::proofs::BesideFacts::beside_after_list))]
 fn add_bytes(
     arena: &mut MemoryArena,
     list: &mut ExpUnrolledLinkedList,
@@ -95,7 +93,6 @@ fn add_bytes(
     list.append(arena, bytes)
 }
 
-#[tactic(auto, using(crate::proofs::BesideFacts::beside_after_map))]
 fn add_entry(
     arena: &mut MemoryArena,
     list: &ExpUnrolledLinkedList,
@@ -141,7 +138,6 @@ fn counted(
 
 // The list takes nine blocks, and the map doubles five times.
 #[test]
-#[tactic(auto, using(crate::proofs::BesideFacts::empty_beside_empty))]
 fn a_list_and_a_map_grow_in_one_arena(rt: HostRuntime) -> Result<(), Fail> {
     let mut arena = MemoryArena::new(rt.alloc())?;
     let mut list = ExpUnrolledLinkedList::default();
