@@ -2,7 +2,10 @@
 #![tactic(auto)]
 
 mod errors;
+mod file;
 mod gather;
+mod numbers;
+mod table;
 mod write;
 
 pub use errors::WriteError;
