@@ -26,7 +26,7 @@ count_in file = from_le_bytes w64 (take 8 (drop 4 file))
 abbrev behind : ℕ → ℕ → Option (List ℕ × List ℕ) → Option (Header × List ℕ)
 behind documents count o = o >>= (λ packed. Some (record { documents = documents; count = count; packed = packed.0 }, packed.1))
 
-number_at-short : (w : Width) (bytes : List ℕ) → length bytes < byte_len w → number_at w bytes ≡ None
+pub number_at-short : (w : Width) (bytes : List ℕ) → length bytes < byte_len w → number_at w bytes ≡ None
 number_at-short w bytes short = ap (λ o. o >>= (λ (piece : List ℕ × List ℕ). Some (from_le_bytes w piece.0, piece.1))) (bytes_at-none (byte_len w) bytes short)
 
 header_at-by : (file : List ℕ) → 12 ≤ length file

@@ -6,7 +6,9 @@ use Rattle.tantivy_bitpacker.specs.Packed.{bytes_for}
 use Rattle.tantivy_sstable.specs.Between.{value_at}
 use Rattle.tantivy_sstable.specs.Opening.{is_compressed_at}
 use Rattle.term_documents.specs.Postings.{Postings}
-use Rattle.index_file.specs.Header.{width_of, packed_length}
+use Rattle.index_file.specs.Header.{width_of, packed_length, numbers_in}
+use Rattle.index_reading.specs.Opened.{header_of}
+use Rattle.index_reading.specs.Numbers.{GivesPart}
 use Rattle.index_reading.specs.declared.open.OpenIndex.{OpenIndex}
 use Rattle.index_reading.specs.declared.errors.IndexError.{IndexError}
 use Rattle.index_reading.specs.declared.errors.IndexError.TheVariants.{Memory, Read, Corrupt, Compressed, Version, NotYet}
@@ -34,6 +36,23 @@ IsLookUpError NotYet = ⊥
 abbrev pub NamesCompressed : Option (List ℕ) → IndexError → Type 0
 NamesCompressed (Some file) (Compressed place) = is_compressed_at place file ≡ true
 NamesCompressed _ _ = ⊤
+
+-- there are such places among so many numbers, and no more of them than documents
+pub record ArePlaces (start end count documents : ℕ) : Type 0 where
+  pub ordered : start ≤ end
+  pub within : end ≤ count
+  pub few : end - start ≤ documents
+
+-- what the numbers from one place to another answer, of those that the file has
+abbrev pub GivesPlaces : OpenIndex → ℕ → ℕ → Result (List ℕ) IndexError → List ℕ → Type 0
+GivesPlaces index start end result file = GivesPart index.documents (numbers_in (header_of index file)) start end result
+
+-- why they fail
+abbrev pub IsPartError : IndexError → Type 0
+IsPartError Memory = Unit {0}
+IsPartError Read = Unit {0}
+IsPartError Corrupt = Unit {0}
+IsPartError _ = ⊥
 
 -- the bytes of the dictionary's blocks
 abbrev pub blocks_length : OpenIndex → ℕ
