@@ -2,6 +2,7 @@
 #![tactic(auto)]
 
 mod errors;
+mod gather;
 mod write;
 
 pub use errors::WriteError;

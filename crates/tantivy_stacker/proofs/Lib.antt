@@ -6,6 +6,7 @@ pub mod Room
 pub mod Appending
 pub mod Reading
 pub mod ListFacts
+pub mod Tenants
 pub mod Halves
 pub mod Tables
 pub mod Hashes

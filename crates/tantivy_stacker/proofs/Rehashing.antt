@@ -1,16 +1,16 @@
 -- A table that is filled from another one.
-use Rattle.std.proofs.Common.{◌≡◌, ◌≢◌, ℕ, zero, suc, ◌+◌, ◌-◌, ◌<◌, ◌≤◌, ◌⊎◌, inl, inr, Bool, true, false, not, cond, filter, Option, Some, None, List, [], ◌∷◌, length, take, get_or, set, replicate, refl, sym, ap, subst, ◌∙◌, arith, count_by}
+use Rattle.std.proofs.Common.{◌≡◌, ◌≢◌, ℕ, zero, suc, ◌+◌, ◌<◌, ◌≤◌, ◌⊎◌, inl, inr, Bool, true, false, not, cond, filter, Option, Some, None, List, [], ◌∷◌, length, get_or, set, replicate, refl, sym, ap, subst, ◌∙◌, arith, count_by}
 use Rattle.std.proofs.lemmas.Bool.{cases_lt, cases_eq, ne_eqb, eq-eqb}
 use Rattle.std.proofs.lemmas.List.{get_or-replicate, get_or_past, get_or_read, length-set, length-replicate, take_all}
 use Rattle.std.proofs.lemmas.List.Sums.{count_by_more_yes, count_by_more_no}
 use Rattle.std.proofs.lemmas.List.Folds.{sum_by-replicate}
-use Rattle.tantivy_stacker.specs.Arena.{Arena, Lies, Keeps, bytes_at}
+use Rattle.tantivy_stacker.specs.Arena.{Arena, Lies, bytes_at}
 use Rattle.tantivy_stacker.specs.Hashing.{hash_of}
 use Rattle.tantivy_stacker.specs.Maps.{Table, place, is_taken, IsTaken, Leads, IsFiled, key_at, value_place, entry_size, IsHeldMap, HasEntry, MapStays, MapPuts, MapWrite, map_places, Finds, AreUnique, Rehashes, IsFiledAnew}
-use Rattle.tantivy_stacker.proofs.Inserting.{put_here, put_there, put_length, put_leads, put_filed_here, put_count, cases_put}
+use Rattle.tantivy_stacker.proofs.Inserting.{put_here, put_there, put_leads, put_filed_here, put_count, cases_put}
 use Rattle.std.proofs.lemmas.List.Elements.{All-nil, All-cons}
 use Rattle.std.proofs.lemmas.Bool.{false≢true}
-use Rattle.tantivy_stacker.specs.Lists.{IsApart, KeepsBut}
+use Rattle.tantivy_stacker.specs.Lists.{IsApart}
 use Rattle.tantivy_stacker.specs.Probes.{IsAbsent}
 use Rattle.tantivy_stacker.proofs.Maps.{areas, entry_apart, filter-cons_yes, filter-cons_no}
 use Rattle.tantivy_stacker.proofs.Tables.{taken-below}

@@ -1,5 +1,6 @@
 // Laws of arenas and lists, for the proofs of callers.
 ghost use Rattle.tantivy_stacker.specs.Maps.{EmptyMapIsHeld, EmptyMapHasNone, EntriesAreOne, OtherMapsStay};
+ghost use Rattle.tantivy_stacker.specs.Tenants.{NoneAreTenants, EmptyJoins, WritesStayApart};
 ghost use Rattle.tantivy_stacker.specs.Lists.{EmptyIsHeld, OthersStay, PlacesLie, LiesBeforeTop, RoomIsBounded, RoomGrows};
 
 use crate::ArenaItem;
@@ -10,6 +11,13 @@ pub fn list_laws()
     ensures others { OthersStay }
     ensures places { PlacesLie }
     ensures top { LiesBeforeTop }
+{}
+
+/// What holds of lists that stand side by side in one arena. It does nothing.
+pub fn tenant_laws()
+    ensures none { NoneAreTenants }
+    ensures empty { EmptyJoins }
+    ensures writes { WritesStayApart }
 {}
 
 /// What holds of the room that a list takes. It does nothing.
