@@ -1,5 +1,5 @@
 -- Numbers that are gathered from packed bytes.
-use Rattle.std.proofs.Common.{◌≡◌, ℕ, zero, suc, ◌+◌, ◌-◌, ◌*◌, ◌<◌, ◌≤◌, List, [], ◌∷◌, ◌++◌, length, take, drop, min, Option, Some, None, Ok, Err, refl, ap, sym, ◌∙◌, subst, arith, length-take, length-drop}
+use Rattle.std.proofs.Common.{◌≡◌, ℕ, zero, suc, ◌+◌, ◌-◌, ◌*◌, ◌<◌, ◌≤◌, List, ◌++◌, length, take, drop, min, Option, Some, None, Ok, Err, refl, ap, sym, ◌∙◌, subst, arith, length-take, length-drop}
 use Rattle.std.proofs.Math.Nat.{mul-le-mul_right, add-mul}
 use Rattle.owned_bytes.specs.Front.{◌>>=◌}
 use Rattle.tantivy_bitpacker.specs.Packed.{unpacked_from}
@@ -48,7 +48,7 @@ group-room (suc n) first count lead group width bytes is low is_lead is_group wi
     let products : (first + count) * width ≡ 8 * width + suc n * width = ap (λ m. m * width) all ∙ add-mul 8 (suc n) width in
     let whole : group ≡ width = omega (arith, is_group, within, products) in
     let long : length (take (length bytes - group) (drop group bytes)) ≡ length bytes - width =
-      length-take (length bytes - group) (drop group bytes) ∙ omega (arith, length-drop group bytes, whole) in
+    length-take (length bytes - group) (drop group bytes) ∙ omega (arith, length-drop group bytes, whole) in
     omega (arith, long, products, within)
 
 -- the numbers behind the first group

@@ -1,31 +1,30 @@
 -- What the numbers at a key are.
-use Rattle.std.proofs.Common.{◌≡◌, ℕ, zero, suc, ◌+◌, ◌-◌, ◌*◌, ◌<◌, ◌≤◌, ◌⊎◌, ⊎_elim, inl, inr, List, [], ◌∷◌, length, take, drop, map, All, Option, Some, None, Result, Ok, Err, Bool, true, false, refl, ap, sym, ◌∙◌, subst, arith, length-take, length-drop}
-use Rattle.std.specs.Prelude.{nat_lt, ◌&&◌, ◌==◌, option_map, option_and_then, unwrap_or, if◌then◌else◌}
+use Rattle.std.proofs.Common.{◌≡◌, ℕ, ◌+◌, ◌-◌, ◌*◌, ◌<◌, ◌≤◌, ◌⊎◌, ⊎_elim, inl, inr, List, [], ◌∷◌, length, take, drop, map, All, Option, Some, None, Result, Ok, Err, Bool, true, false, refl, ap, sym, ◌∙◌, subst, arith, length-take, length-drop}
+use Rattle.std.specs.Prelude.{nat_lt, ◌&&◌, ◌==◌, option_map, unwrap_or, if◌then◌else◌}
 use Rattle.std.specs.List.{list_all}
 use Rattle.std.specs.declared.ops.Range.{Range}
 use Rattle.std.proofs.lemmas.List.Elements.{All-nil, All-cons}
-use Rattle.std.proofs.lemmas.Bool.{and_parts, ltb-true, eqb-true, false≢true}
+use Rattle.std.proofs.lemmas.Bool.{and_parts, ltb-true, eqb-true}
 use Rattle.owned_bytes.specs.Front.{◌>>=◌, provided}
 use Rattle.owned_bytes.specs.Keys.{Key, is_same}
+use Rattle.owned_bytes.specs.Outside.{RisesAtMost}
 use Rattle.sstable_blocks.specs.Codec.{range}
-use Rattle.tantivy_bitpacker.specs.Packed.{unpacked_from, bytes_for}
+use Rattle.sstable_blocks.specs.Run.{Block}
+use Rattle.tantivy_bitpacker.specs.Packed.{bytes_for}
 use Rattle.tantivy_bitpacker.proofs.Unpacking.{length-unpacked_from}
 use Rattle.tantivy_sstable.specs.Between.{value_at}
-use Rattle.tantivy_sstable.specs.Opened.{entries_in, entries_told}
+use Rattle.tantivy_sstable.specs.Opened.{entries_in, entries_told, blocks_told, FetchesBlock}
 use Rattle.tantivy_sstable.specs.Reading.{FindsTold}
 use Rattle.tantivy_sstable.specs.declared.errors.SstError.{SstError}
-use Rattle.tantivy_sstable.specs.declared.errors.SstError.TheVariants as tables
 use Rattle.term_documents.specs.Postings.{Postings}
-use Rattle.index_file.specs.Header.{Header, width_of, packed_length, numbers_in}
+use Rattle.index_file.specs.Header.{width_of, packed_length, numbers_in}
 use Rattle.index_file.specs.IndexFile.{adjoin, is_increasing, is_key, with_numbers, is_posting, postings_of}
 use Rattle.index_reading.specs.declared.open.OpenIndex.{OpenIndex}
 use Rattle.index_reading.specs.declared.errors.IndexError.{IndexError}
 use Rattle.index_reading.specs.declared.errors.IndexError.TheVariants.{Memory, Read, Corrupt, Compressed, Version, NotYet}
 use Rattle.index_reading.specs.Opened.{header_of, postings_in, postings_told, AreNumbers}
-use Rattle.index_reading.specs.Numbers.{GivesNumbers, GivesPart}
-use Rattle.index_reading.specs.LookUp.{LooksUp, LooksUpTold, GivesPlaces, IsPartError}
+use Rattle.index_reading.specs.LookUp.{LooksUp, LooksUpTold, GivesPlaces, FetchesParts, FetchesNumbers, blocks_length, numbers_length}
 use Rattle.index_reading.specs.Steps.{Told, error_of_table}
-use Rattle.index_reading.proofs.Rising.{few}
 
 -- the numbers from one place to another
 abbrev pub part_of : List ℕ → Range ℕ → List ℕ
@@ -62,6 +61,15 @@ no-value key value e = cc
 
 -- ---- the places adjoin
 
+reaches : (start end : ℕ) (entries : List (Key × Range ℕ)) → adjoin start end (map (λ entry. entry.1) entries) ≡ true → start ≤ end
+unfolding adjoin
+reaches start end [] adjoins = let same = eqb-true start end adjoins in omega (arith, same)
+reaches start end (entry ∷ entries) adjoins =
+    let parts = and_parts (entry.1.start == start) (nat_lt entry.1.start entry.1.end && adjoin entry.1.end end (map (λ entry. entry.1) entries)) adjoins in
+    let others = and_parts (nat_lt entry.1.start entry.1.end) (adjoin entry.1.end end (map (λ entry. entry.1) entries)) parts.1 in
+    let more = reaches entry.1.end end entries others.1 in
+    omega (arith, eqb-true entry.1.start start parts.0, ltb-true entry.1.start entry.1.end others.0, more)
+
 pub places-within : (start end : ℕ) (key : Key) (entries : List (Key × Range ℕ)) (places : Range ℕ) → adjoin start end (map (λ entry. entry.1) entries) ≡ true → value_at key entries ≡ Some places
     → (places.start ≤ places.end) × (places.end ≤ end)
 unfolding adjoin
@@ -73,15 +81,6 @@ places-within start end key (entry ∷ entries) places adjoins found =
     let high = reaches entry.1.end end entries others.1 in
     let more = places-within entry.1.end end key entries places others.1 in
     at-key (λ (p : Range ℕ). (p.start ≤ p.end) × (p.end ≤ end)) key entry entries places found (omega (arith, low), high) more
-  where
-    reaches : (start end : ℕ) (entries : List (Key × Range ℕ)) → adjoin start end (map (λ entry. entry.1) entries) ≡ true → start ≤ end
-    unfolding adjoin
-    reaches start end [] adjoins = let same = eqb-true start end adjoins in omega (arith, same)
-    reaches start end (entry ∷ entries) adjoins =
-        let parts = and_parts (entry.1.start == start) (nat_lt entry.1.start entry.1.end && adjoin entry.1.end end (map (λ entry. entry.1) entries)) adjoins in
-        let others = and_parts (nat_lt entry.1.start entry.1.end) (adjoin entry.1.end end (map (λ entry. entry.1) entries)) parts.1 in
-        let more = reaches entry.1.end end entries others.1 in
-        omega (arith, eqb-true entry.1.start start parts.0, ltb-true entry.1.start entry.1.end others.0, more)
 
 -- ---- the numbers are of documents
 
@@ -209,3 +208,52 @@ pub looks-refused : (index : OpenIndex) (contents : Option (List ℕ)) (key : Ke
 looks-refused index contents key places e finds given = by-postings index contents key (Err e) (λ file postings is h.
     let found = finds-in index file postings key h (Ok (Some places)) (told-finding index contents file key (Ok (Some places)) is finds) in
     gives-error index file postings key places e h found (told-given index contents file places (Err e) is given))
+
+-- ---- how many bytes are fetched
+
+key-length : (index : OpenIndex) (file : List ℕ) (postings : Postings) (key : Key) (places : Range ℕ) → (h : HasEntries index file postings) → Some places ≡ value_at key h.entries
+    → length (unwrap_or (value_at key postings.entries) []) ≡ places.end - places.start
+key-length index file postings key places h found =
+    let numbers = numbers_in (header_of index file) in
+    let within = places-within 0 index.count key h.entries places h.adjoins (sym found) in
+    let long : length numbers ≡ index.count = length-unpacked_from 0 index.count (width_of index.documents) (header_of index file).packed in
+    ap (λ o. length (unwrap_or o [])) (at-postings index file postings key h ∙ ap (option_map (part_of numbers)) (sym found))
+    ∙ length-take (places.end - places.start) (drop places.start numbers) ∙ omega (arith, length-drop places.start numbers, long, within.0, within.1)
+
+block-alone : (index : OpenIndex) (blocks : Option (List (Block (Range ℕ)))) (postings : Option Postings) (key : Key) (before now : ℕ) → FetchesBlock blocks before now → RisesAtMost before now (blocks_length index)
+    → FetchesParts index blocks postings key before now
+block-alone index None None key before now block rises = record { later = rises.later; bound = omega (arith, rises.bound) }
+block-alone index None (Some postings) key before now block rises = record { later = rises.later; bound = omega (arith, rises.bound) }
+block-alone index (Some blocks) None key before now block rises = record { later = rises.later; bound = omega (arith, rises.bound) }
+block-alone index (Some blocks) (Some postings) key before now block rises = record { later = rises.later; bound = omega (arith, block) }
+
+pub fetches-block : (index : OpenIndex) (contents : Option (List ℕ)) (key : Key) (before now : ℕ) → FetchesBlock (blocks_told range index.dictionary contents) before now → RisesAtMost before now (blocks_length index)
+    → FetchesNumbers index contents key before now
+fetches-block index contents key before now block rises = block-alone index (blocks_told range index.dictionary contents) (postings_told index contents) key before now block rises
+
+block-and-part : (index : OpenIndex) (blocks : Option (List (Block (Range ℕ)))) (postings : Option Postings) (key : Key) (before middle now n : ℕ) → FetchesBlock blocks before middle → RisesAtMost before middle (blocks_length index)
+    → RisesAtMost middle now n → RisesAtMost middle now (packed_length index.documents index.count) → ((found : Postings) → postings ≡ Some found → n ≡ numbers_length index found key)
+    → FetchesParts index blocks postings key before now
+block-and-part index None None key before middle now n block rises part all is = record { later = omega (arith, rises.later, part.later); bound = omega (arith, rises.bound, all.bound) }
+block-and-part index None (Some postings) key before middle now n block rises part all is = record { later = omega (arith, rises.later, part.later); bound = omega (arith, rises.bound, all.bound) }
+block-and-part index (Some blocks) None key before middle now n block rises part all is = record { later = omega (arith, rises.later, part.later); bound = omega (arith, rises.bound, all.bound) }
+block-and-part index (Some blocks) (Some postings) key before middle now n block rises part all is =
+    record { later = omega (arith, rises.later, part.later); bound = omega (arith, block, part.bound, is postings refl) }
+
+pub fetches-both : (index : OpenIndex) (contents : Option (List ℕ)) (key : Key) (places : Range ℕ) (before middle now : ℕ) → FindsTold (λ r. r) (entries_told range index.dictionary contents) key (Ok (Some places))
+    → FetchesBlock (blocks_told range index.dictionary contents) before middle → RisesAtMost before middle (blocks_length index)
+    → RisesAtMost middle now (28 + bytes_for ((places.end - places.start) * width_of index.documents)) → RisesAtMost middle now (packed_length index.documents index.count)
+    → FetchesNumbers index contents key before now
+fetches-both index contents key places before middle now finds block rises part all =
+    block-and-part index (blocks_told range index.dictionary contents) (postings_told index contents) key before middle now (28 + bytes_for ((places.end - places.start) * width_of index.documents)) block rises part all (each contents finds)
+  where
+    each : (contents : Option (List ℕ)) → FindsTold (λ r. r) (entries_told range index.dictionary contents) key (Ok (Some places)) → (found : Postings) → postings_told index contents ≡ Some found
+        → 28 + bytes_for ((places.end - places.start) * width_of index.documents) ≡ numbers_length index found key
+    each None finds found is = absurd (nothing is)
+      where
+        nothing : None ≡ Some found → ⊥
+        nothing e = cc
+    each (Some file) finds found is =
+        let h = has-entries index file found is in
+        let at = finds-in index file found key h (Ok (Some places)) finds in
+        ap (λ n. 28 + bytes_for (n * width_of index.documents)) (sym (key-length index file found key places h at))

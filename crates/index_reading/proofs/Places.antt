@@ -1,12 +1,11 @@
 -- Where numbers are packed.
-use Rattle.std.proofs.Common.{◌≡◌, ℕ, zero, suc, ◌+◌, ◌-◌, ◌*◌, ◌/◌, ◌%◌, ◌^◌, ◌<◌, ◌≤◌, List, [], ◌∷◌, ◌++◌, length, take, drop, refl, ap, sym, ◌∙◌, subst, arith, drop-drop, leb, true, false}
+use Rattle.std.proofs.Common.{◌≡◌, ℕ, ◌+◌, ◌-◌, ◌*◌, ◌/◌, ◌%◌, ◌^◌, ◌<◌, ◌≤◌, List, ◌++◌, take, drop, refl, ap, sym, ◌∙◌, arith, drop-drop, leb, true, false}
 use Rattle.std.proofs.Math.Nat.{add-mul, mul_assoc, mul-le-mul_right, div-add-mod, pow-le-pow_right}
 use Rattle.std.proofs.Math.Seq.{take-append_seam, drop-append_seam}
 use Rattle.std.proofs.lemmas.Nat.{mul-le}
 use Rattle.std.proofs.lemmas.Bool.{leb-true, leb-false}
-use Rattle.std.proofs.lemmas.List.{take-append-le}
 use Rattle.std.specs.Prelude.{slice_range}
-use Rattle.tantivy_bitpacker.specs.Packed.{bytes_for, unpacked_from, num_bits}
+use Rattle.tantivy_bitpacker.specs.Packed.{bytes_for, unpacked_from}
 use Rattle.tantivy_bitpacker.proofs.Unpacking.{unpacked_from-add, unpacked_from-drop, unpacked_from-take, length-unpacked_from}
 use Rattle.tantivy_bitpacker.proofs.Digits.{HasDigits, HasDigits-from_leading, num_bits_few}
 use Rattle.index_file.specs.Header.{width_of}
@@ -41,7 +40,7 @@ bytes-split start count w = let bits = bits-split start count w in omega (arith,
 pub bytes-few : (start count w : ℕ) → w ≤ 32 → bytes_for ((start % 8 + count) * w) ≤ 28 + bytes_for (count * w)
 bytes-few start count w few =
     let low : start % 8 ≤ 7 = omega arith in
-    let product = mul-le (start % 8) 7 w 32 low few in
+    let product = mul-le (start % 8) w 7 32 low few in
     omega (arith, product, add-mul (start % 8) count w)
 
 pub bytes-within : (n m w : ℕ) → n ≤ m → bytes_for (n * w) ≤ bytes_for (m * w)
@@ -57,7 +56,7 @@ part-unpacked first count w start n bytes within =
     let middle : List ℕ = unpacked_from (first + start) n w bytes in
     let behind : List ℕ = unpacked_from (first + start + n) rest w bytes in
     let parts : unpacked_from first count w bytes ≡ front ++ (middle ++ behind) =
-      ap (λ m. unpacked_from first m w bytes) whole ∙ unpacked_from-add first start (n + rest) w bytes ∙ ap (λ xs. front ++ xs) (unpacked_from-add (first + start) n rest w bytes) in
+    ap (λ m. unpacked_from first m w bytes) whole ∙ unpacked_from-add first start (n + rest) w bytes ∙ ap (λ xs. front ++ xs) (unpacked_from-add (first + start) n rest w bytes) in
     ap (λ xs. take n (drop start xs)) parts
     ∙ ap (λ m. take n (drop m (front ++ (middle ++ behind)))) (sym (length-unpacked_from first start w bytes))
     ∙ ap (take n) (drop-append_seam front (middle ++ behind))
@@ -81,3 +80,12 @@ part-read file part all plen start count w is_plen within is_part =
     ∙ ap (λ n. unpacked_from n count w (drop 12 file)) place
     ∙ sym (unpacked_from-take start count w plen (drop 12 file) (omega (arith, bits, is_plen)))
     ∙ sym (part-unpacked 0 all w start count (take plen (drop 12 file)) within ∙ ap (λ n. unpacked_from n count w (take plen (drop 12 file))) (omega arith))
+
+-- ---- the part of the file that is read
+
+pub record PartFits (start count w : ℕ) (size : ℕ) : Type 0 where
+  pub from : start / 8 * w ≤ size
+  pub whole : 12 + start / 8 * w + bytes_for ((start % 8 + count) * w) ≤ size
+
+pub part-fits : (start count w size : ℕ) → 12 + bytes_for ((start + count) * w) ≤ size → PartFits start count w size
+part-fits start count w size room = let split = bytes-split start count w in record { from = omega (arith, split, room); whole = omega (arith, split, room) }

@@ -1,5 +1,5 @@
 -- What the last bytes of a file tell of its version.
-use Rattle.std.proofs.Common.{◌≡◌, ℕ, ◌+◌, ◌-◌, ◌<◌, ◌≤◌, List, length, take, drop, min, Option, Some, None, Result, Ok, Err, true, false, refl, ap, sym, ◌∙◌, arith, length-drop, drop-drop, leb}
+use Rattle.std.proofs.Common.{◌≡◌, ℕ, ◌-◌, ◌≤◌, List, length, drop, min, Option, Some, None, Ok, Err, true, false, refl, ap, sym, ◌∙◌, arith, length-drop, drop-drop, leb}
 use Rattle.std.proofs.lemmas.Bool.{leb-true, leb-false}
 use Rattle.std.proofs.lemmas.List.{take_all}
 use Rattle.std.specs.Int.{w32, from_le_bytes}
@@ -9,8 +9,7 @@ use Rattle.tantivy_sstable.specs.Opening.{version_of, is_known}
 use Rattle.tantivy_sstable.proofs.Ends.{at_end-none, number_at_end}
 use Rattle.tantivy_sstable.proofs.OpeningLaws.{IsEnding, ending-is, version_of-ending, unknown-known, known-known}
 use Rattle.index_reading.specs.declared.errors.IndexError.TheVariants.{Version}
-use Rattle.index_reading.specs.Opening.{HasOtherVersion}
-use Rattle.index_reading.specs.Steps.{Told, ReadsVersion, HasKnownVersion}
+use Rattle.index_reading.specs.Steps.{Told, ReadsVersion}
 
 pub version-told : (contents : Option (List ℕ)) (size s k v : ℕ) (ending : List ℕ) → HasLength contents size → s ≡ size → 4 ≤ size → k ≡ min s 20
     → IsPart contents (s - k) s ending → length ending ≡ s - (s - k) → v ≡ from_le_bytes w32 (drop (length ending - 4) ending)
@@ -18,7 +17,7 @@ pub version-told : (contents : Option (List ℕ)) (size s k v : ℕ) (ending : L
 version-told None size s k v ending long same room is part len last = tt
 version-told (Some file) size s k v ending long same room is part len last =
     let e : IsEnding file ending = ending-is file ending s (omega (arith, room, same)) (omega (arith, len, is)) (long ∙ sym same)
-      (ap (λ n. drop n file) (omega (arith, len, is)) ∙ sym (part ∙ take_all (s - (s - k)) (drop (s - k) file) (omega (arith, long, same, length-drop (s - k) file)))) in
+    (ap (λ n. drop n file) (omega (arith, len, is)) ∙ sym (part ∙ take_all (s - (s - k)) (drop (s - k) file) (omega (arith, long, same, length-drop (s - k) file)))) in
     version_of-ending file ending e ∙ ap Some (sym last)
 
 pub reads-known : {T : Type 0} (contents : Option (List ℕ)) (v : ℕ) (x : T) → Told contents (λ file. version_of file ≡ Some v) → is_known v ≡ true → Told contents (ReadsVersion (Ok x))

@@ -2,7 +2,7 @@
 use Rattle.std.specs.Prelude.{◌≡◌, ℕ, ◌+◌, ◌-◌, ◌≤◌, List, [], ◌∷◌, length, take, drop, Option, Some, None, ⊤, Result, Ok, Err, nat_le, nat_lt, ◌&&◌, if◌then◌else◌}
 use Rattle.index_reading.specs.Opened.{AreNumbers}
 use Rattle.index_reading.specs.declared.errors.IndexError.{IndexError}
-use Rattle.index_reading.specs.declared.errors.IndexError.TheVariants.{Memory, Read, Corrupt, Compressed, Version, NotYet}
+use Rattle.index_reading.specs.declared.errors.IndexError.TheVariants.{Memory, Read, Corrupt}
 
 -- Where each number is at least `least`, above the ones before it and below `documents`: the least number that could follow.
 unfoldable pub least_after : ℕ → ℕ → List ℕ → Option ℕ
@@ -14,7 +14,6 @@ least_after documents least (number ∷ numbers) =
 abbrev pub GivesNumbers : ℕ → List ℕ → Result (List ℕ) IndexError → Type 0
 GivesNumbers documents numbers (Ok given) = (given ≡ numbers) × AreNumbers documents given
 GivesNumbers documents numbers (Err Memory) = ⊤
-GivesNumbers documents numbers (Err Read) = ⊤
 GivesNumbers documents numbers (Err Corrupt) = ¬ AreNumbers documents numbers
 GivesNumbers documents numbers (Err _) = ⊥
 

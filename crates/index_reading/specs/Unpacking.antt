@@ -2,7 +2,7 @@
 use Rattle.std.specs.Prelude.{◌≡◌, ℕ, List, ◌++◌, Some, None, ⊤, Result, Ok, Err}
 use Rattle.index_reading.specs.Numbers.{least_after}
 use Rattle.index_reading.specs.declared.errors.IndexError.{IndexError}
-use Rattle.index_reading.specs.declared.errors.IndexError.TheVariants.{Memory, Read, Corrupt, Compressed, Version, NotYet}
+use Rattle.index_reading.specs.declared.errors.IndexError.TheVariants.{Memory, Corrupt}
 
 -- values were appended that are at least `least`, rise and stay below `documents`, or they are not such
 abbrev pub Pushes : ℕ → ℕ → List ℕ → List ℕ → List ℕ → Result ℕ IndexError → Type 0

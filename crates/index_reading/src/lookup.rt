@@ -34,12 +34,12 @@ impl OpenIndex {
         ensures size { H.size handle.new ≡ H.size handle.old }
         ensures cause { HasCause (H.faults handle.old) (H.faults handle.new) (result ≡ Err IndexError.Read) }
         ensures reads { RisesAtMost (H.reads handle.old) (H.reads handle.new) 2 }
-        ensures fetched { FetchesNumbers self.now (postings_told self.now (H.contents handle.old)) key.now (H.fetched handle.old) (H.fetched handle.new) }
+        ensures fetched { FetchesNumbers self.now (H.contents handle.old) key.now (H.fetched handle.old) (H.fetched handle.new) }
     {
         let places = match self.dictionary.get(alloc, handle, key) {
             Ok(Some(places)) => places,
             Ok(None) => return Ok(None),
-            Err(e) => return Err(error_of(e, self.table_start())),
+            Err(e) => return Err(error_of(e, self.blocks_range().start)),
         };
         match self.numbers_of(alloc, handle, places.start, places.end) {
             Ok(numbers) => Ok(Some(numbers)),
@@ -47,11 +47,13 @@ impl OpenIndex {
         }
     }
 
-    // Where the table begins in the file.
-    fn table_start(&self) -> usize
-        ensures { result ≡ self.now.dictionary.blocks_range.start }
+    // Where the table's blocks are in the file.
+    fn blocks_range(&self) -> Range<usize>
+        ensures start { result.start ≡ self.now.dictionary.blocks_range.start }
+        ensures end { result.end ≡ self.now.dictionary.blocks_range.end }
+        ensures small { result.end < 2 ^ 64 }
     {
-        self.dictionary.sstable_slice.range().start
+        self.dictionary.sstable_slice.range()
     }
 
     // The numbers from one place to another.
@@ -76,7 +78,7 @@ impl OpenIndex {
         if !are_places(start, end, self.count, self.documents) {
             return Err(IndexError::Corrupt);
         }
-        let width = width_of(self.documents);
+        let width = packed_width(self.documents);
         let count = (end - start) as usize;
         let range = packed_part(width, start, count, handle.len());
         let part = match read_part(alloc, handle, range) {
@@ -99,6 +101,14 @@ fn are_places(start: u64, end: u64, count: u64, documents: u32) -> bool
     ensures { IsTrue result ↔ ArePlaces start end count documents }
 {
     start <= end && end <= count && end - start <= documents as u64
+}
+
+// The bits that each number is packed in.
+fn packed_width(documents: u32) -> u8
+    ensures width { result ≡ spec.width_of documents }
+    ensures few { result ≤ 32 }
+{
+    width_of(documents)
 }
 
 // Where so many numbers from the place `start` on are packed in a file of so many bytes, from a group of eight on.

@@ -10,7 +10,13 @@ use std::alloc::{AllocError, Global};
 use tantivy_bitpacker::BitUnpacker;
 
 // So many numbers from the place `first` on.
-fn unpacked(alloc: Global, width: u8, first: u32, count: usize, bytes: &[u8]) -> Result<Vec<u64>, AllocError>
+fn unpacked(
+    alloc: Global,
+    width: u8,
+    first: u32,
+    count: usize,
+    bytes: &[u8],
+) -> Result<Vec<u64>, AllocError>
     requires allowed { 56 < width → width ≡ 64 }
     requires places { first + count ≤ 2 ^ 32 }
     requires within { (first + count) * width ≤ 8 * length bytes.now }

@@ -1,4 +1,4 @@
-use Rattle.std.proofs.Common.{◌≡◌, ◌-◌, List, ℕ, length, drop, ap, ◌∙◌}
+use Rattle.std.proofs.Common.{◌-◌, List, ℕ, length, drop, ap, ◌∙◌}
 use Rattle.std.specs.Int.{w32, from_le_bytes}
 use Rattle.tantivy_sstable.proofs.OpeningLaws.{known-is, unknown-is}
 use Rattle.index_reading.proofs.Versions.{version-told, reads-known, reads-other}

@@ -1,5 +1,5 @@
 use Rattle.std.proofs.Common.{arith}
-use Rattle.index_reading.proofs.TableLaws.{opens-found, opens-refused, fetches-table}
+use Rattle.index_reading.proofs.TableLaws.{opens-found, opens-refused}
 use Rattle.index_reading.proofs.open.open_table.Goals as goal
 
 pub returns-in-Ok-clause-opens : goal.returns-in-Ok-clause-opens

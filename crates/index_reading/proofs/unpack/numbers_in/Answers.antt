@@ -1,4 +1,4 @@
-use Rattle.std.proofs.Common.{◌-◌, ◌++◌, List, ℕ, length, take, drop, ap, sym, ◌∙◌, subst, arith, refl, length-drop}
+use Rattle.std.proofs.Common.{◌-◌, List, ℕ, length, drop, ap, ◌∙◌, subst, arith, refl, length-drop}
 use Rattle.std.proofs.lemmas.List.{take_all}
 use Rattle.tantivy_bitpacker.specs.Packed.{unpacked_from}
 use Rattle.index_reading.specs.Numbers.{GivesNumbers}

@@ -1,4 +1,4 @@
-use Rattle.std.proofs.Common.{append_assoc, ◌≡◌, ◌+◌, ap, sym, ◌∙◌, inl, inr, arith, ◌++◌, ◌∷◌, [], take, drop, slice_index}
+use Rattle.std.proofs.Common.{append_assoc, ap, sym, ◌∙◌, inl, inr, ◌++◌, ◌∷◌, [], take, slice_index}
 use Rattle.std.proofs.lemmas.List.{take_more, take_all, drop_all}
 use Rattle.index_reading.specs.Numbers.{least_after}
 use Rattle.index_reading.proofs.Rising.{least-step, least-stop}

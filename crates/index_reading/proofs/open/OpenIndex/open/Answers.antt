@@ -1,4 +1,4 @@
-use Rattle.std.proofs.Common.{arith, Ok, Option, List, ℕ, subst, ap, sym, ◌∙◌}
+use Rattle.std.proofs.Common.{arith, Option, List, ℕ, subst, sym, ◌∙◌}
 use Rattle.index_reading.specs.Steps.{Told, HasHead, HasTable}
 use Rattle.index_reading.proofs.Headers.{opens-short}
 use Rattle.index_reading.proofs.TableLaws.{opens-headless, opens-far, has-table}
