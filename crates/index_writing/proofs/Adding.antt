@@ -1,7 +1,6 @@
 -- What one pair more does to a map of keys with numbers.
-use Rattle.std.proofs.Common.{◌≡◌, ℕ, ◌+◌, ◌-◌, ◌<◌, ◌≤◌, Bool, true, false, cond, ◌&&◌, ◌||◌, List, [], ◌∷◌, ◌++◌, length, Option, Some, None, refl, sym, ap, subst, ◌∙◌, arith, append-nil, BTreeMap, All, eqb, inl, inr, take, get_or, length-take-le}
+use Rattle.std.proofs.Common.{◌≡◌, ℕ, ◌+◌, ◌-◌, ◌<◌, Bool, true, false, cond, ◌||◌, List, [], ◌∷◌, ◌++◌, length, Option, Some, None, refl, sym, ap, subst, ◌∙◌, arith, BTreeMap, All, eqb, inl, inr, take, get_or, length-take-le}
 use Rattle.std.specs.Prelude.{unwrap_or, slice_get, bytes_eq}
-use Rattle.std.specs.List.{list_any}
 use Rattle.std.specs.BTreeMap.{is_at}
 use Rattle.std.specs.Map.{update, lookup}
 use Rattle.std.specs.Ordering.{nat_cmp, eq_by_cmp, is_eq}
@@ -21,8 +20,8 @@ use Rattle.owned_bytes.specs.Keys.{Key, is_same, is_equal}
 use Rattle.term_documents.specs.declared.documents.Pair.{Pair}
 use Rattle.term_documents.specs.declared.documents.Doc.{Doc}
 use Rattle.term_documents.specs.Postings.{key_of, numbers_of}
-use Rattle.index_writing.specs.Gathering.{listed, ends_with, with_number, numbers_at, Tells}
-use Rattle.index_writing.proofs.Numbers.{has, numbers-with, numbers-without, numbers-below}
+use Rattle.index_writing.specs.Gathering.{listed, with_number, numbers_at, Tells}
+use Rattle.index_writing.proofs.Numbering.{has, numbers-with, numbers-without, numbers-below}
 
 equal-eq : (o : Ordering) → is_equal o ≡ is_eq o
 equal-eq Less = refl

@@ -1,5 +1,5 @@
 -- A map that tells documents has the entries that they gather to.
-use Rattle.std.proofs.Common.{◌≡◌, ℕ, ◌+◌, Bool, true, false, cond, ◌||◌, List, [], ◌∷◌, ◌++◌, Option, Some, None, refl, sym, ap, subst, ◌∙◌, BTreeMap}
+use Rattle.std.proofs.Common.{◌≡◌, ℕ, ◌+◌, Bool, true, false, cond, ◌||◌, List, [], ◌∷◌, Some, None, refl, sym, ap, subst, ◌∙◌, BTreeMap}
 use Rattle.std.specs.Prelude.{map, filter, T}
 use Rattle.std.specs.List.{enumerate_from, list_any, flat_map, AllByRecursion}
 use Rattle.std.specs.List.Sorted.{IsStrictlySortedBy}
@@ -23,10 +23,9 @@ use Rattle.term_documents.specs.declared.documents.Doc.{Doc}
 use Rattle.term_documents.specs.Postings as postings
 unfoldable use Rattle.term_documents.specs.Postings.{gather}
 use Rattle.index_writing.specs.Gathering.{listed, Tells}
-use Rattle.index_writing.proofs.Numbers.{has}
-use Rattle.index_writing.proofs.Adding.{same-by}
+use Rattle.index_writing.proofs.Numbering.{has}
 
-abbrev cmp : Key → Key → Ordering
+abbrev pub cmp : Key → Key → Ordering
 cmp = slice_cmp nat_cmp
 
 total : IsTotalOrder cmp
@@ -51,7 +50,7 @@ above-less a b below same = total.antisymm b a ∙ ap ordering_reverse (go (cmp 
     go Equal e s = absurd cc
     go Greater e s = refl
 
-all-with : (P : Key → Type 0) (key : Key) (keys : List Key) → P key → AllByRecursion P keys → AllByRecursion P (with_key key keys)
+pub all-with : (P : Key → Type 0) (key : Key) (keys : List Key) → P key → AllByRecursion P keys → AllByRecursion P (with_key key keys)
 unfolding with_key
 all-with P key [] here others = (here, tt)
 all-with P key (other ∷ keys) here others =
@@ -73,16 +72,16 @@ with_key-sorted key [] sorted = (tt, tt)
 with_key-sorted key (other ∷ keys) sorted =
     let Sorted : List Key → Type 0 = IsStrictlySortedBy cmp in
     let by : (b c : Bool) → is_below key other ≡ b → is_same key other ≡ c → Sorted (cond b (key ∷ other ∷ keys) (cond c (other ∷ keys) (other ∷ with_key key keys))) =
-      λ b. elim b as (λ b. (c : Bool) → is_below key other ≡ b → is_same key other ≡ c → Sorted (cond b (key ∷ other ∷ keys) (cond c (other ∷ keys) (other ∷ with_key key keys)))) [
-        | true ↦ λ c below same. ((below-less key other below, further key other keys (below-less key other below) sorted.0), sorted)
-        | false ↦ λ c. elim c as (λ c. is_below key other ≡ false → is_same key other ≡ c → Sorted (cond c (other ∷ keys) (other ∷ with_key key keys))) [
-          | true ↦ λ below same. sorted
-          | false ↦ λ below same. (all-with (λ y. cmp other y ≡ Less) key keys (above-less key other below same) sorted.0, with_key-sorted key keys sorted.1)
-        ]
-      ] in
+    λ b. elim b as (λ b. (c : Bool) → is_below key other ≡ b → is_same key other ≡ c → Sorted (cond b (key ∷ other ∷ keys) (cond c (other ∷ keys) (other ∷ with_key key keys)))) [
+      | true ↦ λ c below same. ((below-less key other below, further key other keys (below-less key other below) sorted.0), sorted)
+      | false ↦ λ c. elim c as (λ c. is_below key other ≡ false → is_same key other ≡ c → Sorted (cond c (other ∷ keys) (other ∷ with_key key keys))) [
+        | true ↦ λ below same. sorted
+        | false ↦ λ below same. (all-with (λ y. cmp other y ≡ Less) key keys (above-less key other below same) sorted.0, with_key-sorted key keys sorted.1)
+      ]
+    ] in
     by (is_below key other) (is_same key other) refl refl
 
-key_set-sorted : (keys : List Key) → IsStrictlySortedBy cmp (key_set keys)
+pub key_set-sorted : (keys : List Key) → IsStrictlySortedBy cmp (key_set keys)
 unfolding key_set IsStrictlySortedBy
 key_set-sorted [] = tt
 key_set-sorted (key ∷ keys) = with_key-sorted key (key_set keys) (key_set-sorted keys)
@@ -112,13 +111,13 @@ any-with test key [] = refl
 any-with test key (other ∷ keys) =
     let Goal : List Key → Type 0 = λ ks. list_any test ks ≡ (test key || (test other || list_any test keys)) in
     let by : (b c : Bool) → is_same key other ≡ c → Goal (cond b (key ∷ other ∷ keys) (cond c (other ∷ keys) (other ∷ with_key key keys))) =
-      λ b. elim b as (λ b. (c : Bool) → is_same key other ≡ c → Goal (cond b (key ∷ other ∷ keys) (cond c (other ∷ keys) (other ∷ with_key key keys)))) [
-        | true ↦ λ c same. refl
-        | false ↦ λ c. elim c as (λ c. is_same key other ≡ c → Goal (cond c (other ∷ keys) (other ∷ with_key key keys))) [
-          | true ↦ λ same. or-same (test other) (list_any test keys) ∙ ap (λ k. test k || (test other || list_any test keys)) (sym (same-is key other same))
-          | false ↦ λ same. ap (λ b. test other || b) (any-with test key keys) ∙ or-swap (test other) (test key) (list_any test keys)
-        ]
-      ] in
+    λ b. elim b as (λ b. (c : Bool) → is_same key other ≡ c → Goal (cond b (key ∷ other ∷ keys) (cond c (other ∷ keys) (other ∷ with_key key keys)))) [
+      | true ↦ λ c same. refl
+      | false ↦ λ c. elim c as (λ c. is_same key other ≡ c → Goal (cond c (other ∷ keys) (other ∷ with_key key keys))) [
+        | true ↦ λ same. or-same (test other) (list_any test keys) ∙ ap (λ k. test k || (test other || list_any test keys)) (sym (same-is key other same))
+        | false ↦ λ same. ap (λ b. test other || b) (any-with test key keys) ∙ or-swap (test other) (test key) (list_any test keys)
+      ]
+    ] in
     by (is_below key other) (is_same key other) refl
 
 any-set : (test : Key → Bool) (keys : List Key) → list_any test (key_set keys) ≡ list_any test keys
@@ -128,24 +127,22 @@ any-set test (key ∷ keys) = any-with test key (key_set keys) ∙ ap (λ b. tes
 
 -- ---- the entries
 
-paired : {V : Type 0} → (Key → V) → List Key → List (Key × V)
+abbrev pub paired : {V : Type 0} → (Key → V) → List Key → List (Key × V)
 paired f keys = map (λ key. (key, f key)) keys
 
 keys-paired : {V : Type 0} (f : Key → V) (keys : List Key) → keys_of (paired f keys) ≡ keys
-unfolding paired
 keys-paired f [] = refl
 keys-paired f (key ∷ keys) = ap (λ ks. key ∷ ks) (keys-paired f keys)
 
 lookup-paired : {V : Type 0} (f : Key → V) (q : Key) (keys : List Key) → lookup (is_at (cmp q)) (paired f keys) ≡ cond (list_any (is_at (cmp q)) keys) (Some (f q)) None
-unfolding paired
 lookup-paired f q [] = refl
 lookup-paired f q (key ∷ keys) =
     let rest = lookup-paired f q keys in
     let by : (b : Bool) → is_at (cmp q) key ≡ b → cond b (Some (f key)) (lookup (is_at (cmp q)) (paired f keys)) ≡ cond (b || list_any (is_at (cmp q)) keys) (Some (f q)) None =
-      λ b. elim b as (λ b. is_at (cmp q) key ≡ b → cond b (Some (f key)) (lookup (is_at (cmp q)) (paired f keys)) ≡ cond (b || list_any (is_at (cmp q)) keys) (Some (f q)) None) [
-        | true ↦ λ e. ap (λ k. Some (f k)) (sym (exact_bytes q key ((Equal-is (cmp q key)).0 e)))
-        | false ↦ λ e. rest
-      ] in
+    λ b. elim b as (λ b. is_at (cmp q) key ≡ b → cond b (Some (f key)) (lookup (is_at (cmp q)) (paired f keys)) ≡ cond (b || list_any (is_at (cmp q)) keys) (Some (f q)) None) [
+      | true ↦ λ e. ap (λ k. Some (f k)) (sym (exact_bytes q key ((Equal-is (cmp q key)).0 e)))
+      | false ↦ λ e. rest
+    ] in
     by (is_at (cmp q) key) refl
 
 -- ---- the numbers
@@ -171,7 +168,7 @@ any-docs q (doc ∷ docs) =
     ∙ ap (λ b. b || list_any (is_at (cmp q)) (flat_map (λ (doc : Doc). map postings.key_of doc.pairs) docs)) (any-pairs q doc.pairs)
     ∙ ap (λ b. has q doc.pairs || b) (any-docs q docs)
 
-listed-chosen : (test : Doc → Bool) (start : ℕ) (docs : List Doc) → listed (map (λ (numbered : ℕ × Doc). numbered.0) (filter (λ (numbered : ℕ × Doc). test numbered.1) (enumerate_from start docs)))
+pub listed-chosen : (test : Doc → Bool) (start : ℕ) (docs : List Doc) → listed (map (λ (numbered : ℕ × Doc). numbered.0) (filter (λ (numbered : ℕ × Doc). test numbered.1) (enumerate_from start docs)))
     ≡ cond (list_any test docs) (Some (map (λ (numbered : ℕ × Doc). numbered.0) (filter (λ (numbered : ℕ × Doc). test numbered.1) (enumerate_from start docs)))) None
 listed-chosen test start [] = refl
 listed-chosen test start (doc ∷ docs) =
@@ -202,12 +199,12 @@ same-by_lookup es fs s t same =
     same_entries cmp total exact_bytes es fs (subst T (sym (sorted-test es s)) tt) (subst T (sym (sorted-test fs t)) tt) (λ q. found-same q es ∙ same q ∙ sym (found-same q fs))
 
 pub entries-told : (gathered : BTreeMap Key (List ℕ)) (docs : List Doc) → IsOrdered cmp gathered → Tells gathered docs → gathered.entries ≡ (gather docs).entries
-unfolding gather paired
+unfolding gather
 entries-told gathered docs ordered tells =
     let keys = key_set (flat_map (λ (doc : Doc). map postings.key_of doc.pairs) docs) in
     let numbers : Key → List ℕ = λ key. postings.numbers_of key docs in
     let rising : IsStrictlySortedBy cmp (keys_of (paired numbers keys)) = subst (IsStrictlySortedBy cmp) (sym (keys-paired numbers keys)) (key_set-sorted (flat_map (λ (doc : Doc). map postings.key_of doc.pairs) docs)) in
     same-by_lookup gathered.entries (paired numbers keys) ordered rising
     (λ q. tells q ∙ listed-chosen (λ doc. has q doc.pairs) 0 docs
-        ∙ ap (λ b. cond b (Some (numbers q)) None) (sym (any-set (is_at (cmp q)) (flat_map (λ (doc : Doc). map postings.key_of doc.pairs) docs) ∙ any-docs q docs))
-        ∙ sym (lookup-paired numbers q keys))
+    ∙ ap (λ b. cond b (Some (numbers q)) None) (sym (any-set (is_at (cmp q)) (flat_map (λ (doc : Doc). map postings.key_of doc.pairs) docs) ∙ any-docs q docs))
+    ∙ sym (lookup-paired numbers q keys))

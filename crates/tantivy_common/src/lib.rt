@@ -3,6 +3,8 @@
 
 mod bounds;
 mod json_path_writer;
+#[cfg(test)]
+mod tests;
 mod versatile_buffer;
 
 pub use bounds::{

@@ -1,5 +1,5 @@
 // A vector that is emptied between its uses.
-ghost use Rattle.std.specs.Prelude.{◌≡◌, []};
+ghost use Rattle.std.specs.Prelude.{◌≡◌, ◌≤◌, [], IfOk, vec_capacity};
 
 use std::alloc::{AllocError, Global};
 use std::ops::{Deref, DerefMut};
@@ -11,14 +11,19 @@ pub struct VersatileBuffer<A> {
 }
 
 impl<A: Drop> VersatileBuffer<A> {
-    pub fn new(alloc: Global) -> Self {
+    pub fn new(alloc: Global) -> Self
+        ensures { result.buffer.items ≡ [] }
+    {
         VersatileBuffer {
             buffer: Vec::new(alloc),
         }
     }
 
     /// A buffer with memory for so many items.
-    pub fn with_capacity(alloc: Global, capacity: usize) -> Result<Self, AllocError> {
+    pub fn with_capacity(alloc: Global, capacity: usize) -> Result<Self, AllocError>
+        ensures empty { IfOk result (λ b. b.buffer.items ≡ []) }
+        ensures room { IfOk result (λ b. capacity ≤ vec_capacity b.buffer) }
+    {
         Ok(VersatileBuffer {
             buffer: Vec::with_capacity(alloc, capacity)?,
         })

@@ -18,3 +18,4 @@ pub mod Mutating
 pub mod MapFacts
 pub mod Iterating
 pub mod Listing
+pub mod BesideFacts

@@ -172,7 +172,7 @@ module _ {V : Type 0} (size : ℕ) (item : List ℕ → V) (a : Arena) (t u : Ta
   absent_before key absent = λ i taken same. absent_at size item a t key absent (s.only key (item (bytes_at a (value_place a (place u.places i).0) size)) (record { at = i; taken = taken; key_is = same; value_is = refl }))
 
 -- the places of a map and of the one before the rehash are the same
-all_areas : (size : ℕ) (a : Arena) (q n : ℕ) (ps : List (ℕ × ℕ)) → ((i : ℕ) → IsTaken ps i → (q + n ≤ (place ps i).0) ⊎ ((place ps i).0 + entry_size size a (place ps i).0 ≤ q)) → IsApart q n (areas size a (filter is_taken ps))
+pub all_areas : (size : ℕ) (a : Arena) (q n : ℕ) (ps : List (ℕ × ℕ)) → ((i : ℕ) → IsTaken ps i → (q + n ≤ (place ps i).0) ⊎ ((place ps i).0 + entry_size size a (place ps i).0 ≤ q)) → IsApart q n (areas size a (filter is_taken ps))
 all_areas size a q n [] apart = All-nil _
 all_areas size a q n (p ∷ ps) apart =
     let rest = all_areas size a q n ps (λ i taken. apart (suc i) taken) in

@@ -6,3 +6,4 @@ pub mod Probes
 pub mod Tenants
 pub mod PageLending
 pub mod Lending
+pub mod Beside

@@ -2,6 +2,7 @@
 ghost use Rattle.tantivy_stacker.specs.Maps.{EmptyMapIsHeld, EmptyMapHasNone, EntriesAreOne, OtherMapsStay};
 ghost use Rattle.tantivy_stacker.specs.Tenants.{NoneAreTenants, EmptyJoins, WritesStayApart};
 ghost use Rattle.tantivy_stacker.specs.Lists.{EmptyIsHeld, OthersStay, PlacesLie, LiesBeforeTop, RoomIsBounded, RoomGrows};
+ghost use Rattle.tantivy_stacker.specs.Beside.{EmptyAreBeside, ListWritesBeside, MapWritesBeside};
 
 use crate::ArenaItem;
 
@@ -32,4 +33,11 @@ pub fn map_laws<V: ArenaItem>()
     ensures none { EmptyMapHasNone V.SIZE V.item }
     ensures one { EntriesAreOne V.SIZE V.item }
     ensures others { OtherMapsStay V.SIZE V.item }
+{}
+
+/// What holds of a list and a map in one arena. It does nothing.
+pub fn beside_laws<V: ArenaItem>()
+    ensures empty { EmptyAreBeside V.SIZE }
+    ensures list { ListWritesBeside V.SIZE V.item }
+    ensures map { MapWritesBeside V.SIZE }
 {}

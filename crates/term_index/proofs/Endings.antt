@@ -25,6 +25,7 @@ use Rattle.term_index.specs.Refusals.{input_limit, Spell, AreKept, Refuses}
 use Rattle.term_index.specs.Running.{Builds, Searches, Asks, PrintsTree, RefusesQuery, IsLaterQuery, ask_pages}
 use Rattle.term_index.specs.Ending.{IsAmong, placed_end, fault_end, size_end, documents_end, read_end, build_end, unsupported_end, leaves_end, answer_end, query_end, shown_end, tree_end, then_end, ask_end, BuildEnds, AskEnds, TreeEnds, RefusalEnds}
 use Rattle.term_index.proofs.Valid.{valid_first}
+use Rattle.term_index.proofs.OtherVersion.{other_version_ready}
 
 -- ---- documents
 
@@ -181,7 +182,7 @@ module _ (field query : List ℕ) (bytes : List ℕ) (old new : Option (List ℕ
 
 -- ---- a file of another version
 
-module _ (query field : List ℕ) (bytes : List ℕ) (old new : Option (List ℕ)) (searched : CanBeSearched query) (version : ℕ) (is : version_of bytes ≡ Some version) (unknown : is_known version ≡ false) (ready : is_waiting_file bytes ≡ false) where
+module _ (query field : List ℕ) (bytes : List ℕ) (old new : Option (List ℕ)) (searched : CanBeSearched query) (version : ℕ) (is : version_of bytes ≡ Some version) (unknown : is_known version ≡ false) where
   not_known : has_known_version bytes ≡ false
   not_known = ap (λ (o : Option ℕ). is_some (o >>= (λ v. provided (is_known v)))) is ∙ ap (λ b. is_some (provided b)) unknown
 
@@ -211,7 +212,7 @@ module _ (query field : List ℕ) (bytes : List ℕ) (old new : Option (List ℕ
   other_version Done says = both_ways (has_known_version bytes) says.1.opened.known not_known
   other_version OutFault says = both_ways (has_known_version bytes) says.1.opened.known not_known
   other_version Memory says = inr (inr (inl refl))
-  other_version NotYet says = absurd (elim says.2 [ inl leaf ↦ no_leaf leaf | inr waiting ↦ both_ways (is_waiting_file bytes) waiting ready ])
+  other_version NotYet says = absurd (elim says.2 [ inl leaf ↦ no_leaf leaf | inr waiting ↦ both_ways (is_waiting_file bytes) waiting (other_version_ready bytes version is unknown) ])
   other_version Query says = absurd (no_query grammar.Refused says.0 (λ e. cc))
   other_version TooDeep says = absurd (no_query grammar.TooDeep says.0 (λ e. cc))
   other_version UnsupportedSlop says = absurd (no_kind Slop says.0.0 says.0.1 says.0.2)

@@ -4,5 +4,6 @@ pub mod Prefixes
 pub mod OneCommand
 pub mod Found
 pub mod Valid
+pub mod OtherVersion
 pub mod Endings
 pub mod Headlines

@@ -4,7 +4,6 @@ ghost use Rattle.std.specs.Io.KnownBytes.{IsAtEnd, Keeps};
 ghost use Rattle.owned_bytes.specs.Outside.{HasCause};
 ghost use Rattle.tantivy_sstable.specs.Opening.{version_of, is_known};
 ghost use Rattle.term_documents.specs.declared.documents.Doc.{Doc};
-ghost use Rattle.index_file.specs.Opening.{is_waiting_file};
 ghost use Rattle.term_search.specs.Searching.{CanBeSearched, IsWhole, ReadsWithin, Fetches};
 ghost use Rattle.term_index.specs.Commands.{IsCommand, IsNoCommand, IfBuild, IfSearch, IfAsk, IfTree, OfSearch, IsWithinLimits, reads_documents, reads_file, writes_store, prints};
 ghost use Rattle.term_index.specs.Commands as commands;
@@ -76,7 +75,7 @@ pub fn run<S: Source, H: FileHandle, W: Sink, O: Sink>(
     ensures search_ends { IfSearch words.now (λ field query. ¬ CanBeSearched query → RefusalEnds (query_end query) result) }
     ensures search_done { IfSearch words.now (λ field query. CanBeSearched query → IsWhole (H.contents file.old) → SearchEnds Outcome.Done result) }
     ensures search_version { IfSearch words.now (λ field query. CanBeSearched query → IfSome (H.contents file.old) (λ bytes.
-        (version : ℕ) → version_of bytes ≡ Some version → is_known version ≡ false → is_waiting_file bytes ≡ false
+        (version : ℕ) → version_of bytes ≡ Some version → is_known version ≡ false
         → IsAmong (Outcome.Version version ∷ Outcome.ReadFault ∷ Outcome.Memory ∷ []) result)) }
     ensures search_short { IfSearch words.now (λ field query. CanBeSearched query → H.size file.old < 4 → RefusalEnds Outcome.Corrupt result) }
 

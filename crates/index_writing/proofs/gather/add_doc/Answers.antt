@@ -1,6 +1,5 @@
-use Rattle.std.proofs.Common.{◌≡◌, ◌∙◌, sym, ap, subst, [], ◌∷◌, ◌++◌, List, length, take, arith}
-use Rattle.std.proofs.lemmas.List.{take_more, take_all}
-use Rattle.term_documents.specs.declared.documents.Doc.{Doc}
+use Rattle.std.proofs.Common.{◌∙◌, subst, [], ◌∷◌, ◌++◌}
+use Rattle.std.proofs.lemmas.List.{take_all}
 use Rattle.index_writing.specs.Gathering.{Tells}
 use Rattle.index_writing.proofs.Adding.{add-pair-at, tells-none}
 use Rattle.index_writing.proofs.gather.add_doc.Goals as goal

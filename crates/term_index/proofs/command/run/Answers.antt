@@ -7,7 +7,6 @@ use Rattle.term_index.specs.Shown.{shown}
 use Rattle.term_index.specs.Running.{Told, Does, Builds, Searches, Asks, PrintsTree}
 use Rattle.tantivy_sstable.specs.Opening.{version_of, is_known}
 use Rattle.term_documents.specs.declared.documents.Doc.{Doc}
-use Rattle.index_file.specs.Opening.{is_waiting_file}
 use Rattle.term_search.specs.Searching.{CanBeSearched}
 use Rattle.term_index.specs.Refusals.{Spell, AreKept}
 use Rattle.term_index.specs.Running.{ask_pages}
@@ -37,9 +36,9 @@ asks_done_told : (field query : List ℕ) (outcome : Outcome) (left old new : Op
 asks_done_told field query outcome None old new says = tt
 asks_done_told field query outcome (Some bytes) old new says = asks_done field query bytes old new outcome says
 
-other_version_told : (query field : List ℕ) (outcome : Outcome) (file old new : Option (List ℕ)) → Searches field query outcome file old new → CanBeSearched query → IfSome file (λ bytes. (version : ℕ) → version_of bytes ≡ Some version → is_known version ≡ false → is_waiting_file bytes ≡ false → IsAmong (Version version ∷ ReadFault ∷ Memory ∷ []) outcome)
+other_version_told : (query field : List ℕ) (outcome : Outcome) (file old new : Option (List ℕ)) → Searches field query outcome file old new → CanBeSearched query → IfSome file (λ bytes. (version : ℕ) → version_of bytes ≡ Some version → is_known version ≡ false → IsAmong (Version version ∷ ReadFault ∷ Memory ∷ []) outcome)
 other_version_told query field outcome None old new says searched = tt
-other_version_told query field outcome (Some bytes) old new says searched = λ version is unknown ready. other_version query field bytes old new searched version is unknown ready outcome says
+other_version_told query field outcome (Some bytes) old new says searched = λ version is unknown. other_version query field bytes old new searched version is unknown outcome says
 
 same_test : (test : Command → Bool) (words : List (List ℕ)) (read command : Command) (b : Bool) → IsCommand words read → IsCommand words command → test command ≡ b → test read ≡ b
 same_test test words read command b is other holds = ap test (one_command words read command is other) ∙ holds

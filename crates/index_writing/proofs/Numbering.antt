@@ -1,7 +1,7 @@
 -- The numbers of the documents that have a key.
-use Rattle.std.proofs.Common.{◌≡◌, ℕ, ◌+◌, ◌<◌, ◌≤◌, Bool, true, false, cond, ◌&&◌, List, [], ◌∷◌, ◌++◌, length, refl, sym, ap, ◌∙◌, arith, append-nil, All}
-use Rattle.std.specs.Prelude.{map, filter, nat_lt, nat_le}
-use Rattle.std.specs.List.{enumerate_from, list_all, list_any}
+use Rattle.std.proofs.Common.{◌≡◌, ℕ, ◌+◌, ◌<◌, ◌≤◌, Bool, true, false, cond, List, [], ◌∷◌, ◌++◌, length, refl, ap, ◌∙◌, arith, append-nil, All}
+use Rattle.std.specs.Prelude.{map, filter, nat_lt}
+use Rattle.std.specs.List.{enumerate_from, list_any}
 use Rattle.std.proofs.lemmas.List.{map-append}
 use Rattle.std.proofs.lemmas.List.Elements.{filter-append, All-cons, All-head}
 use Rattle.std.proofs.lemmas.Bool.{and_from}
