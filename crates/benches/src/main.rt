@@ -6,7 +6,7 @@
 mod ask;
 mod documents;
 mod gather;
-// mod index;
+mod index;
 mod packed;
 mod parse;
 mod sets;
@@ -21,7 +21,7 @@ fn main(rt: HostRuntime) -> anyhow::Result<()> {
     let count: u32 = count.as_str().parse()?;
     match case.as_str() {
         "ask" => ask::time(&rt, count),
-        // "index" => index::time(&rt, count),
+        "index" => index::time(&rt, count),
         "parse" => parse::time(&rt, count),
         "sets" => sets::time(&rt, count),
         "gather" => gather::time(&rt, count),
