@@ -10,3 +10,6 @@ mod write;
 
 pub use errors::WriteError;
 pub use write::write_index;
+
+#[cfg(test)]
+mod tests;

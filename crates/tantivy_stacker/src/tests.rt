@@ -28,7 +28,6 @@ fn a_whole_page_and_one_more_byte(rt: HostRuntime) -> Result<(), Fail> {
 }
 
 #[test]
-#[tactic(auto, using(crate::proofs::BesideFacts::held_if_empty))]
 fn parts_of_a_list(rt: HostRuntime) -> Result<(), Fail> {
     let mut arena = MemoryArena::new(rt.alloc())?;
     let mut list = ExpUnrolledLinkedList::default();
@@ -73,16 +72,15 @@ fn keys_of_all_lengths(rt: HostRuntime) -> Result<(), Fail> {
 
 #[test]
 fn two_keys_of_one_hash(rt: HostRuntime) -> Result<(), Fail> {
-    assert_eq!(rt; get_hash(b"k127804"), get_hash(b"k152289"));
+    assert_eq!(rt; get_hash(b"k119618"), get_hash(b"k281721"));
     let mut map: ArenaHashMap<u32> = ArenaHashMap::new(rt.alloc())?;
-    map.mutate_or_create(b"k127804", |_| 1)?;
-    map.mutate_or_create(b"k152289", |_| 2)?;
-    assert_eq!(rt; map.get(b"k127804"), Some(1));
-    assert_eq!(rt; map.get(b"k152289"), Some(2));
+    map.mutate_or_create(b"k119618", |_| 1)?;
+    map.mutate_or_create(b"k281721", |_| 2)?;
+    assert_eq!(rt; map.get(b"k119618"), Some(1));
+    assert_eq!(rt; map.get(b"k281721"), Some(2));
     Ok(())
 }
 
-#[tactic(auto, using(crate::proofs::BesideFacts::beside_after_list))]
 fn add_bytes(
     arena: &mut MemoryArena,
     list: &mut ExpUnrolledLinkedList,
@@ -95,7 +93,6 @@ fn add_bytes(
     list.append(arena, bytes)
 }
 
-#[tactic(auto, using(crate::proofs::BesideFacts::beside_after_map))]
 fn add_entry(
     arena: &mut MemoryArena,
     list: &ExpUnrolledLinkedList,
@@ -141,7 +138,6 @@ fn counted(
 
 // The list takes nine blocks, and the map doubles five times.
 #[test]
-#[tactic(auto, using(crate::proofs::BesideFacts::empty_beside_empty))]
 fn a_list_and_a_map_grow_in_one_arena(rt: HostRuntime) -> Result<(), Fail> {
     let mut arena = MemoryArena::new(rt.alloc())?;
     let mut list = ExpUnrolledLinkedList::default();
