@@ -17,9 +17,12 @@ use term_documents::{Doc, Pair};
 fn key_of(alloc: Global, pair: &Pair) -> Result<Key, AllocError>
     ensures { IfOk result (λ key. key ≡ key_of pair.now) }
 {
-    let mut bytes = Vec::from_slice(alloc, pair.field.as_str().as_bytes())?;
+    let field = pair.field.as_str().as_bytes();
+    let term = pair.term.as_str().as_bytes();
+    let mut bytes = Vec::with_capacity(alloc, field.len() + term.len() + 1)?;
+    bytes.extend_from_slice(field)?;
     bytes.push(0)?;
-    bytes.extend_from_slice(pair.term.as_str().as_bytes())?;
+    bytes.extend_from_slice(term)?;
     Ok(Key::from_vec(bytes))
 }
 
