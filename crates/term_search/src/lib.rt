@@ -2,6 +2,7 @@
 #![tactic(auto)]
 
 mod answer;
+mod obstacles;
 mod search;
 
 pub use answer::{Answer, Kind, SearchError};
