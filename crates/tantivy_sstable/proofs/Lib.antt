@@ -8,3 +8,4 @@ pub mod Keeping
 pub mod Inserting
 pub mod Finishing
 pub mod RangeTables
+pub mod Standing

@@ -1,5 +1,5 @@
 -- How a reader goes over the entries of a table.
-use Rattle.std.specs.Prelude.{◌⊎◌, ◌≡◌, ℕ, ◌+◌, ◌-◌, ◌*◌, ◌^◌, length, List, [], ◌∷◌, Option, Some, None, unwrap_or, option_map, map, Result, Ok, Err, Bool, true, false}
+use Rattle.std.specs.Prelude.{◌⊎◌, ◌≡◌, ℕ, ◌+◌, ◌-◌, ◌*◌, ◌^◌, length, List, [], ◌∷◌, Option, Some, None, unwrap_or, option_map, map, slice_range, Result, Ok, Err, Bool, true, false}
 use Rattle.owned_bytes.specs.Keys.{Key}
 unfoldable use Rattle.owned_bytes.specs.Keys.{is_rising}
 unfoldable use Rattle.tantivy_sstable.specs.Between.{value_at}
@@ -7,8 +7,12 @@ use Rattle.sstable_blocks.specs.declared.errors.BlockError.{BlockError}
 use Rattle.sstable_blocks.specs.declared.errors.BlockError.TheVariants as blocks
 use Rattle.sstable_blocks.specs.Codec.{Codec}
 use Rattle.sstable_blocks.specs.Delta.{Delta}
-use Rattle.sstable_blocks.specs.Entries.{Walk}
+use Rattle.sstable_blocks.specs.Entries.{Walk, MemoryOr, step}
+unfoldable use Rattle.sstable_blocks.specs.Content.{block_at}
+unfoldable use Rattle.sstable_blocks.specs.Delta.{delta_at}
 unfoldable use Rattle.sstable_blocks.specs.Entries.{entries_left}
+use Rattle.common_wire.specs.Slices.{Span}
+use Rattle.tantivy_sstable.specs.Opening.{is_compressed_at}
 use Rattle.tantivy_sstable.specs.declared.errors.SstError.{SstError}
 use Rattle.tantivy_sstable.specs.declared.errors.SstError.TheVariants as errors
 
@@ -41,6 +45,12 @@ abbrev pub GoesOn : {V : Type 0} → Codec V → List (Key × V) → Reads V →
 GoesOn codec entries reads (Ok true) = Takes codec entries reads
 GoesOn codec entries reads (Ok false) = entries ≡ []
 GoesOn codec entries reads (Err e) = e ≡ blocks.Memory
+
+-- the step that a call took
+abbrev pub Steps : {V : Type 0} → Codec V → Walk V → Walk V → Result Bool BlockError → Type 0
+Steps codec old new (Ok true) = step codec old ≡ Ok (Some new)
+Steps codec old new (Ok false) = step codec old ≡ Ok None
+Steps codec old new (Err e) = MemoryOr e (step codec old ≡ Err e)
 
 -- the same error
 abbrev pub error_of_block : BlockError → SstError
@@ -83,3 +93,17 @@ IsReadingError (errors.Compressed place) = Unit {0}
 IsReadingError errors.Read = Unit {0}
 IsReadingError (errors.Version version) = ⊥
 IsReadingError errors.NotYet = ⊥
+
+-- a block is answered to be compressed only where one stands at the place
+abbrev pub TellsPlace : List ℕ → SstError → Type 0
+TellsPlace table errors.Memory = Unit {0}
+TellsPlace table errors.Corrupt = Unit {0}
+TellsPlace table (errors.Compressed place) = is_compressed_at place table ≡ true
+TellsPlace table errors.Read = Unit {0}
+TellsPlace table (errors.Version version) = Unit {0}
+TellsPlace table errors.NotYet = Unit {0}
+
+-- the same in the bytes at a range of the contents, where they are told
+abbrev pub TellsPlaceAt : Option (List ℕ) → Span → SstError → Type 0
+TellsPlaceAt None range error = Unit {0}
+TellsPlaceAt (Some contents) range error = TellsPlace (slice_range contents range.start range.end) error

@@ -4,13 +4,13 @@ ghost use Rattle.std.specs.Int.{w32, w64, from_le_bytes};
 ghost use Rattle.owned_bytes.specs.Outside.{HasCause, RisesAtMost, IsPart};
 ghost use Rattle.tantivy_sstable.specs.Opening.{Opens, OpensAt, without_file, FetchesIndex, LiesWithin, IsReadError, is_known};
 ghost use Rattle.tantivy_sstable.specs.Opened.{entries_told};
-ghost use Rattle.tantivy_sstable.specs.Reading.{FindsTold, IsReadingError};
+ghost use Rattle.tantivy_sstable.specs.Reading.{FindsTold, IsReadingError, TellsPlaceAt};
 ghost use Rattle.tantivy_sstable.specs.Steps.{ReadsFooter, ReadsIndex};
 
 use crate::lookup::value_in;
-use crate::{SSTable, SSTableIndex, SSTableIndexV2, SSTableIndexV3Empty, SstError};
+use crate::{SSTable, SSTableIndex, SSTableIndexV2, SSTableIndexV3Empty, SstError, Writer};
 use common_wire::FileSlice;
-use owned_bytes::{BytesFile, FileHandle, HandleError, OwnedBytes};
+use owned_bytes::{BytesFile, FileHandle, HandleError, OwnedBytes, Sink};
 use std::alloc::Global;
 use std::marker::{Model, PhantomData};
 use std::ops::Range;
@@ -56,6 +56,20 @@ impl<S: SSTable> Dictionary<S> {
         ensures { result ≡ self.now.num_terms }
     {
         self.num_terms as usize
+    }
+}
+
+impl<S: SSTable> Dictionary<S> {
+    ghost use Rattle.std.specs.Prelude.{[]};
+    ghost use Rattle.tantivy_sstable.specs.Making.{HasInserted};
+    ghost use Rattle.tantivy_sstable.specs.Writer.{writes, table_sink};
+
+    /// A writer of a table that is appended to what the sink has.
+    pub fn builder<W: Sink>(alloc: Global, wrt: W) -> Writer<W, S::ValueWriter>
+        ensures sink { table_sink result ≡ wrt }
+        ensures entries { HasInserted (writes S.ValueWriter.written W.written W.faults result) (W.written wrt) [] }
+    {
+        Writer::new(alloc, wrt)
     }
 }
 
@@ -136,6 +150,7 @@ impl<S: SSTable> Dictionary<S> {
         requires { self.now.blocks_range.end ≤ H.size handle.old }
         ensures found { FindsTold S.Value.shown (entries_told S.ValueReader.codec self.now (H.contents handle.old)) key.now result }
         ensures error { IfErr result IsReadingError }
+        ensures compressed { IfErr result (TellsPlaceAt (H.contents handle.old) self.now.blocks_range) }
         ensures contents { H.contents handle.new ≡ H.contents handle.old }
         ensures size { H.size handle.new ≡ H.size handle.old }
         ensures cause { HasCause (H.faults handle.old) (H.faults handle.new) (result ≡ Err SstError.Read) }

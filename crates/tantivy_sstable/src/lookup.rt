@@ -2,7 +2,7 @@
 ghost use Rattle.std.specs.Prelude.{◌≡◌, ◌<◌, ◌^◌, List, length, Some, IfErr};
 ghost use Rattle.owned_bytes.specs.Keys.{Key};
 ghost use Rattle.sstable_blocks.specs.Run.{run_of};
-ghost use Rattle.tantivy_sstable.specs.Reading.{Finds, IsLookupError};
+ghost use Rattle.tantivy_sstable.specs.Reading.{Finds, IsLookupError, TellsPlace};
 
 use crate::{Reader, SSTable, SstError};
 use owned_bytes::OwnedBytes;
@@ -18,6 +18,7 @@ pub(crate) fn value_in<S: SSTable>(
     requires { length blocks < 2 ^ 64 }
     ensures found { (entries : List (Key × S.Value.Shown)) → run_of S.ValueReader.codec blocks ≡ Some entries → Finds S.Value.shown entries key.now result }
     ensures error { IfErr result IsLookupError }
+    ensures compressed { IfErr result (TellsPlace blocks) }
 {
     let mut reader = Reader::<S::ValueReader>::new(alloc, blocks, 0);
     'entries: loop {

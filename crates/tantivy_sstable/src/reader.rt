@@ -1,5 +1,5 @@
 // The entries of a table in order.
-ghost use Rattle.std.specs.Prelude.{◌≡◌, ◌+◌, ◌<◌, ◌^◌, length, true, List, Some, IfOk, IfErr, IfSome, IsSome, OnErr};
+ghost use Rattle.std.specs.Prelude.{◌≡◌, ◌+◌, ◌<◌, ◌^◌, [], length, true, List, Some, IfOk, IfErr, IfSome, IsSome, OnErr};
 ghost use Rattle.owned_bytes.specs.Keys.{Key};
 
 use owned_bytes::OwnedBytes;
@@ -15,13 +15,15 @@ pub struct Reader<T> {
 
 impl<T: ValueReader> Reader<T> {
     ghost use Rattle.sstable_blocks.specs.Run.{run_of};
-    ghost use Rattle.tantivy_sstable.specs.Reading.{HasLeft, GoesOn, work_left};
+    ghost use Rattle.sstable_blocks.specs.Entries.{IsFresh};
+    ghost use Rattle.tantivy_sstable.specs.Reading.{HasLeft, GoesOn, Steps, work_left};
     ghost use Rattle.tantivy_sstable.specs.Reader.{reads};
 
     /// A reader before the first entry. `start` is where the bytes stand in the table.
     pub(crate) fn new(alloc: Global, reader: OwnedBytes, start: u64) -> Self
         requires { start + length reader < 2 ^ 64 }
-        ensures { (entries : List (Key × T.Value.Shown)) → run_of T.codec reader ≡ Some entries → HasLeft T.codec (reads T.loaded result) entries }
+        ensures fresh { IsFresh (reads T.loaded result).walk reader start }
+        ensures entries { (entries : List (Key × T.Value.Shown)) → run_of T.codec reader ≡ Some entries → HasLeft T.codec (reads T.loaded result) entries }
     {
         Reader {
             key: Vec::new(alloc),
@@ -29,9 +31,21 @@ impl<T: ValueReader> Reader<T> {
         }
     }
 
+    /// A reader without entries.
+    pub(crate) fn empty(alloc: Global) -> Self
+        ensures fresh { IsFresh (reads T.loaded result).walk [] 0 }
+        ensures entries { HasLeft T.codec (reads T.loaded result) [] }
+    {
+        Reader {
+            key: Vec::new(alloc),
+            delta_reader: DeltaReader::empty(alloc),
+        }
+    }
+
     /// Goes to the next entry; false where none is left.
     pub fn advance(&mut self) -> Result<bool, BlockError>
         ensures current { IfOk result (λ more. more ≡ true → IsSome (reads T.loaded self.new).walk.current) }
+        ensures step { Steps T.codec (reads T.loaded self.old).walk (reads T.loaded self.new).walk result }
         ensures falls { IfOk result (λ more. more ≡ true → work_left (reads T.loaded self.new).walk < work_left (reads T.loaded self.old).walk) }
         ensures entries { (entries : List (Key × T.Value.Shown)) → HasLeft T.codec (reads T.loaded self.old) entries → GoesOn T.codec entries (reads T.loaded self.new) result }
     {
