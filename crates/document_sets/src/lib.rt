@@ -1,0 +1,10 @@
+//! Sets of document numbers, and how those of a clause are combined.
+#![tactic(auto)]
+
+mod document_set;
+mod joined;
+#[cfg(test)]
+mod tests;
+
+pub use document_set::DocSet;
+pub use joined::JoinedSets;

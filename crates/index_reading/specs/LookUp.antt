@@ -1,0 +1,50 @@
+-- What a look-up of a key in an opened index answers.
+use Rattle.std.specs.Prelude.{◌≡◌, ◌⊎◌, ℕ, ◌+◌, ◌-◌, ◌*◌, ◌≤◌, List, [], length, ⊤, true, Option, Some, None, unwrap_or, Result, Ok, Err}
+use Rattle.owned_bytes.specs.Keys.{Key}
+use Rattle.owned_bytes.specs.Outside.{RisesAtMost}
+use Rattle.tantivy_bitpacker.specs.Packed.{bytes_for}
+use Rattle.tantivy_sstable.specs.Between.{value_at}
+use Rattle.tantivy_sstable.specs.Opening.{is_compressed_at}
+use Rattle.term_documents.specs.Postings.{Postings}
+use Rattle.index_file.specs.Header.{width_of, packed_length}
+use Rattle.index_reading.specs.declared.open.OpenIndex.{OpenIndex}
+use Rattle.index_reading.specs.declared.errors.IndexError.{IndexError}
+use Rattle.index_reading.specs.declared.errors.IndexError.TheVariants.{Memory, Read, Corrupt, Compressed, Version, NotYet}
+
+-- what a look-up of the key answers, where these are the keys with their numbers
+abbrev pub LooksUp : List (Key × List ℕ) → Key → Result (Option (List ℕ)) IndexError → Type 0
+LooksUp entries key (Ok found) = found ≡ value_at key entries
+LooksUp entries key (Err error) = (error ≡ Memory) ⊎ (error ≡ Read)
+
+-- the same, where they are told
+abbrev pub LooksUpTold : Option Postings → Key → Result (Option (List ℕ)) IndexError → Type 0
+LooksUpTold None key result = ⊤
+LooksUpTold (Some postings) key result = LooksUp postings.entries key result
+
+-- why a look-up fails
+abbrev pub IsLookUpError : IndexError → Type 0
+IsLookUpError Memory = Unit {0}
+IsLookUpError Read = Unit {0}
+IsLookUpError Corrupt = Unit {0}
+IsLookUpError (Compressed place) = Unit {0}
+IsLookUpError (Version version) = ⊥
+IsLookUpError NotYet = ⊥
+
+-- a refusal of a compressed block names the place of one, where the contents are told
+abbrev pub NamesCompressed : Option (List ℕ) → IndexError → Type 0
+NamesCompressed (Some file) (Compressed place) = is_compressed_at place file ≡ true
+NamesCompressed _ _ = ⊤
+
+-- the bytes of the dictionary's blocks
+abbrev pub blocks_length : OpenIndex → ℕ
+blocks_length index = index.dictionary.blocks_range.end - index.dictionary.blocks_range.start
+
+-- the bytes that the numbers of the key are packed in, and 28 for those before them in a group of eight
+abbrev pub numbers_length : OpenIndex → Postings → Key → ℕ
+numbers_length index postings key =
+    28 + bytes_for (length (unwrap_or (value_at key postings.entries) []) * width_of index.documents)
+
+-- a count rose by no more than the lengths of the blocks and of all packed numbers; or of those of the key, where they are told
+abbrev pub FetchesNumbers : OpenIndex → Option Postings → Key → ℕ → ℕ → Type 0
+FetchesNumbers index None key before now = RisesAtMost before now (blocks_length index + packed_length index.documents index.count)
+FetchesNumbers index (Some postings) key before now = RisesAtMost before now (blocks_length index + numbers_length index postings key)
