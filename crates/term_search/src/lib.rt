@@ -2,6 +2,7 @@
 #![tactic(auto)]
 
 mod answer;
+mod members;
 mod obstacles;
 mod search;
 
