@@ -228,7 +228,7 @@ has_key docs key i doc at = by (list_any (is_same key) (keys_of docs)) refl
         ap (λ o. has i (unwrap_or o [])) (value_nowhere docs key (keys_of docs) e)
         ∙ sym (none_in_doc key docs i doc (sym (any-key_set key _) ∙ e) at)
 
-doc_pairs : (docs : List Doc) (i : ℕ) (doc : Doc) → All (λ (d : Doc). All IsValidPair d.pairs) docs → slice_get docs i ≡ Some doc → All IsValidPair doc.pairs
+pub doc_pairs : (docs : List Doc) (i : ℕ) (doc : Doc) → All (λ (d : Doc). All IsValidPair d.pairs) docs → slice_get docs i ≡ Some doc → All IsValidPair doc.pairs
 doc_pairs [] i doc all h = (let apart : None ≡ Some doc = h in cc)
 doc_pairs (d ∷ docs) zero doc all h = let same : d ≡ doc = cc in subst (λ (x : Doc). All IsValidPair x.pairs) same (all 0 d (omega arith))
 doc_pairs (d ∷ docs) (suc i) doc all h = doc_pairs docs i doc (λ k x less. all (suc k) x (omega arith)) h

@@ -1,7 +1,9 @@
 -- Which numbers the set of a tree has, as far as the tree was searched for.
 use Rattle.std.specs.Prelude.{◌≡◌, ℕ, List, [], ◌∷◌, map, Bool, true, ◌&&◌, ◌||◌, Option, Some, None, option_map, slice_get, Result, Ok, Err, ⊤, length, filter}
 use Rattle.std.specs.List.{flat_map}
-use Rattle.std.specs.FinSet.{contains}
+use Rattle.std.specs.FinSet.{contains, from_list}
+use Rattle.index_reading.specs.declared.errors.IndexError.{IndexError}
+use Rattle.index_reading.specs.declared.errors.IndexError.TheVariants as index
 use Rattle.common_bitset.specs.Numbers.{Numbers}
 use Rattle.document_sets.specs.Joined.{Joined}
 use Rattle.query_tree.specs.declared.tree.Occur.{Occur}
@@ -28,6 +30,19 @@ pub record Finds (told : Option Postings) (test : Doc → Bool) (elements : Numb
 pub record Adds (told : Option Postings) (test : Doc → Bool) (old new : Numbers) : Type 0 where
   pub those : (docs : List Doc) → AreValidDocuments docs → told ≡ Some (gather docs)
       → (i : ℕ) (doc : Doc) → slice_get docs i ≡ Some doc → contains new i ≡ (contains old i || test doc)
+
+-- the numbers are those of the documents that pass the test
+pub record Posts (told : Option Postings) (test : Doc → Bool) (numbers : List ℕ) : Type 0 where
+  pub those : (docs : List Doc) → AreValidDocuments docs → told ≡ Some (gather docs) → HasThose docs test (from_list numbers)
+
+-- the error of an opened index, as one of a search
+abbrev pub error_of_index : IndexError → SearchError
+error_of_index index.Memory = Memory
+error_of_index index.Read = Read
+error_of_index index.Corrupt = Corrupt
+error_of_index (index.Compressed place) = Compressed place
+error_of_index (index.Version version) = Version version
+error_of_index index.NotYet = NotYet
 
 -- a compressed block stands at the place, where the contents are told
 abbrev pub NamesBlock : Option (List ℕ) → ℕ → Type 0
