@@ -108,6 +108,31 @@ marks-more pairs None b =
     three _ _ _ _ _ _ (answers-more is_must pairs None b ∙ nothing _) (answers-more is_must_not pairs None b ∙ nothing _) (answers-more is_optional pairs None b)
     ∙ ap (λ (x : Option Bool). record (marks_of pairs) { offered = x }) (any_if_any-more (answers is_optional pairs) b)
 
+-- ---- a set that is joined
+
+with_same_mark : (marks : Marks) (mark other : Option Occur) (b : Bool) (new : Marks) → mark ≡ other → new ≡ with_mark marks other b → new ≡ with_mark marks mark b
+with_same_mark marks mark other b new same is = is ∙ ap (λ m. with_mark marks m b) (sym same)
+
+pub joins_must : (i : ℕ) (old new : Joined) (occur : Occur) (s : Numbers) → occur ≡ Must → new ≡ record old { required = Some (met old.required s) }
+    → marks_at i new ≡ with_mark (marks_at i old) (Some occur) (contains s i)
+joins_must i old new occur s is next = with_same_mark (marks_at i old) (Some occur) (Some Must) (contains s i) _ (ap (λ (m : Occur). Some m) is)
+    (ap (λ (j : Joined). marks_at i j) next ∙ ap (λ (b : Bool). record (marks_at i old) { required = Some b }) (contains_met i old.required s))
+
+pub joins_must_not : (i : ℕ) (old new : Joined) (occur : Occur) (s : Numbers) → occur ≡ MustNot → new ≡ record old { excluded = Some (united old.excluded s) }
+    → marks_at i new ≡ with_mark (marks_at i old) (Some occur) (contains s i)
+joins_must_not i old new occur s is next = with_same_mark (marks_at i old) (Some occur) (Some MustNot) (contains s i) _ (ap (λ (m : Occur). Some m) is)
+    (ap (λ (j : Joined). marks_at i j) next ∙ ap (λ (b : Bool). record (marks_at i old) { excluded = Some b }) (contains_united i old.excluded s))
+
+pub joins_should : (i : ℕ) (old new : Joined) (occur : Occur) (s : Numbers) → occur ≡ Should → new ≡ record old { offered = Some (united old.offered s) }
+    → marks_at i new ≡ with_mark (marks_at i old) (Some occur) (contains s i)
+joins_should i old new occur s is next = with_same_mark (marks_at i old) (Some occur) (Some Should) (contains s i) _ (ap (λ (m : Occur). Some m) is)
+    (ap (λ (j : Joined). marks_at i j) next ∙ ap (λ (b : Bool). record (marks_at i old) { offered = Some b }) (contains_united i old.offered s))
+
+pub joins_unmarked : (i : ℕ) (old new : Joined) (mark : Option Occur) (s : Numbers) → mark ≡ None → new ≡ record old { offered = Some (united old.offered s) }
+    → marks_at i new ≡ with_mark (marks_at i old) mark (contains s i)
+joins_unmarked i old new mark s is next = with_same_mark (marks_at i old) mark None (contains s i) _ is
+    (ap (λ (j : Joined). marks_at i j) next ∙ ap (λ (b : Bool). record (marks_at i old) { offered = Some b }) (contains_united i old.offered s))
+
 -- ---- the set of a clause
 
 abbrev pub verdict : Marks → Bool

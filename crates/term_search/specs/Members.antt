@@ -118,9 +118,9 @@ pub record Joins (told : Option Postings) (default : List ℕ) (pairs : List (Op
 
 -- ---- what is asked of the file
 
--- what one leaf asks
-abbrev pub asked_in : List ℕ → UserInputLeaf → List Lookup
-asked_in default leaf = filter (λ wanted. is_field wanted.field) (lookups_of_leaf default leaf)
+-- what leaves ask
+abbrev pub asked_by : List ℕ → List UserInputLeaf → List Lookup
+asked_by default leaves = filter (λ wanted. is_field wanted.field) (flat_map (lookups_of_leaf default) leaves)
 
 -- the set was joined that has this mark
 abbrev pub AddsMark : Option Occur → Numbers → Joined → Joined → Type 0

@@ -1,20 +1,21 @@
 //! The set of the documents that satisfy a tree.
-ghost use Rattle.std.specs.Prelude.{false, ◌≡◌, ◌*◌, ◌++◌, [], ◌∷◌, length, unwrap_or, IfOk, IfErr, IfSome, OnOk, OnErr, Err, if◌then◌else◌};
+ghost use Rattle.std.specs.Prelude.{Some, false, ◌≡◌, ◌*◌, ◌++◌, [], ◌∷◌, length, unwrap_or, IfOk, IfErr, IfSome, OnOk, OnErr, Err, if◌then◌else◌};
 ghost use Rattle.std.specs.List.{list_any};
 ghost use Rattle.owned_bytes.specs.Outside.{HasCause, RisesAtMost};
-ghost use Rattle.index_file.specs.Search.{asked, leaves_of};
+ghost use Rattle.index_file.specs.Search.{asked};
+ghost use Rattle.query_tree.specs.declared.tree.UserInputLeaf.TheVariants.{Literal};
 ghost use Rattle.index_reading.specs.Opened.{LiesIn, AreNumbers, postings_told};
 ghost use Rattle.term_documents.specs.Documents.{IsField, holds};
 ghost use Rattle.term_documents.specs.Documents as spec;
-ghost use Rattle.term_documents.specs.Satisfies.{satisfies, satisfies_leaf};
-ghost use Rattle.term_search.specs.Leaves.{has_waiting_leaf, is_waiting_leaf};
-ghost use Rattle.term_search.specs.Members.{Finds, Posts, Adds, Joins, IsSearchError, AddsMark, asked_in};
+ghost use Rattle.term_documents.specs.Satisfies.{satisfies, satisfies_clause, satisfies_leaf};
+ghost use Rattle.term_search.specs.Leaves.{has_waiting_leaf, is_waiting_leaf, leaves_among};
+ghost use Rattle.term_search.specs.Members.{Finds, Posts, Adds, Joins, IsSearchError, AddsMark, answered, asked_by};
 
 use crate::SearchError;
 use document_sets::{DocSet, JoinedSets};
 use index_reading::{IndexError, OpenIndex};
 use owned_bytes::{FileHandle, Ids, Text};
-use query_tree::{Occur, UserInputAst, UserInputLeaf};
+use query_tree::{Occur, UserInputAst, UserInputLeaf, UserInputLiteral};
 use std::alloc::{AllocError, Global};
 use term_documents::is_field;
 
@@ -109,4 +110,179 @@ fn add_terms<H: FileHandle>(
         }
     }
     Ok(())
+}
+
+fn field_or<'a>(field: &'a Option<Text>, default_field: &'a str) -> &'a str
+    ensures { result.now ≡ unwrap_or field.now default_field.now }
+{
+    match field {
+        Some(field) => field.as_str(),
+        None => default_field,
+    }
+}
+
+fn literal_members<H: FileHandle>(
+    alloc: Global,
+    file: &mut H,
+    index: &OpenIndex,
+    default_field: &str,
+    literal: &UserInputLiteral,
+) -> Result<DocSet, SearchError>
+    requires lies { LiesIn index.now (H.size file.old) }
+    ensures found { IfOk result (λ s. Finds (postings_told index.now (H.contents file.old)) (λ doc. satisfies_leaf doc default_field.now (Literal literal.now)) s.elements) }
+    ensures over { IfOk result (λ s. s.max_value ≡ index.now.documents) }
+    ensures error { IfErr result (IsSearchError (H.contents file.old) (postings_told index.now (H.contents file.old)) literal.now.prefix) }
+    ensures contents { H.contents file.new ≡ H.contents file.old }
+    ensures size { H.size file.new ≡ H.size file.old }
+    ensures cause { HasCause (H.faults file.old) (H.faults file.new) (result ≡ Err SearchError.Read) }
+    ensures reads { RisesAtMost (H.reads file.old) (H.reads file.new) (2 * length (asked_by default_field.now (Literal literal.now ∷ []))) }
+{
+    if literal.prefix {
+        return Err(SearchError::NotYet);
+    }
+    let mut members = DocSet::empty(index.documents);
+    if literal.slop > 0 {
+        return Ok(members);
+    }
+    let field = field_or(&literal.field_name, default_field);
+    match add_term(alloc, file, index, field, literal.phrase.as_str(), &mut members) {
+        Ok(()) => Ok(members),
+        Err(error) => Err(error),
+    }
+}
+
+fn set_members<H: FileHandle>(
+    alloc: Global,
+    file: &mut H,
+    index: &OpenIndex,
+    field: &str,
+    elements: &[Text],
+) -> Result<DocSet, SearchError>
+    requires lies { LiesIn index.now (H.size file.old) }
+    ensures found { IfOk result (λ s. Finds (postings_told index.now (H.contents file.old)) (λ doc. list_any (holds doc field.now) elements.now) s.elements) }
+    ensures over { IfOk result (λ s. s.max_value ≡ index.now.documents) }
+    ensures error { IfErr result (IsSearchError (H.contents file.old) (postings_told index.now (H.contents file.old)) false) }
+    ensures contents { H.contents file.new ≡ H.contents file.old }
+    ensures size { H.size file.new ≡ H.size file.old }
+    ensures cause { HasCause (H.faults file.old) (H.faults file.new) (result ≡ Err SearchError.Read) }
+    ensures reads { RisesAtMost (H.reads file.old) (H.reads file.new) (length elements.now * (if spec.is_field field.now then 2 else 0)) }
+{
+    let mut members = DocSet::empty(index.documents);
+    match add_terms(alloc, file, index, field, elements, &mut members) {
+        Ok(()) => Ok(members),
+        Err(error) => Err(error),
+    }
+}
+
+fn leaf_members<H: FileHandle>(
+    alloc: Global,
+    file: &mut H,
+    index: &OpenIndex,
+    default_field: &str,
+    leaf: &UserInputLeaf,
+) -> Result<DocSet, SearchError>
+    requires lies { LiesIn index.now (H.size file.old) }
+    ensures found { IfOk result (λ s. Finds (postings_told index.now (H.contents file.old)) (λ doc. satisfies_leaf doc default_field.now leaf.now) s.elements) }
+    ensures over { IfOk result (λ s. s.max_value ≡ index.now.documents) }
+    ensures error { IfErr result (IsSearchError (H.contents file.old) (postings_told index.now (H.contents file.old)) (is_waiting_leaf leaf.now)) }
+    ensures contents { H.contents file.new ≡ H.contents file.old }
+    ensures size { H.size file.new ≡ H.size file.old }
+    ensures cause { HasCause (H.faults file.old) (H.faults file.new) (result ≡ Err SearchError.Read) }
+    ensures reads { RisesAtMost (H.reads file.old) (H.reads file.new) (2 * length (asked_by default_field.now (leaf.now ∷ []))) }
+{
+    match leaf {
+        UserInputLeaf::Literal(literal) => {
+            literal_members(alloc, file, index, default_field, literal)
+        }
+        UserInputLeaf::All => Ok(DocSet::full(index.documents)),
+        UserInputLeaf::Set { field, elements } => set_members(
+            alloc,
+            file,
+            index,
+            field_or(field, default_field),
+            elements.as_slice(),
+        ),
+        UserInputLeaf::Range { .. } | UserInputLeaf::Exists { .. } => Err(SearchError::NotYet),
+        UserInputLeaf::Regex { .. } => Ok(DocSet::empty(index.documents)),
+    }
+}
+
+/// Adds the set of a tree that has this mark.
+fn join(joined: &mut JoinedSets, mark: Option<Occur>, members: DocSet)
+    requires { members.max_value ≡ joined.old.documents }
+    ensures marks { AddsMark mark members.elements joined.old joined.new }
+    ensures documents { joined.new.documents ≡ joined.old.documents }
+{
+    match mark {
+        Some(occur) => join_marked(joined, occur, members),
+        None => joined.offer(members),
+    }
+}
+
+fn join_marked(joined: &mut JoinedSets, occur: Occur, members: DocSet)
+    requires { members.max_value ≡ joined.old.documents }
+    ensures marks { AddsMark (Some occur) members.elements joined.old joined.new }
+    ensures documents { joined.new.documents ≡ joined.old.documents }
+{
+    match occur {
+        Occur::Must => joined.require(members),
+        Occur::MustNot => joined.exclude(members),
+        Occur::Should => joined.offer(members),
+    }
+}
+
+/// The documents that satisfy a tree, where a leaf without a field is of the default field.
+#[cycle(members)]
+pub fn tree_members<H: FileHandle>(
+    alloc: Global,
+    file: &mut H,
+    index: &OpenIndex,
+    default_field: &str,
+    tree: &UserInputAst,
+) -> Result<DocSet, SearchError>
+    requires lies { LiesIn index.now (H.size file.old) }
+    ensures found { IfOk result (λ s. Finds (postings_told index.now (H.contents file.old)) (λ doc. satisfies doc tree.now default_field.now) s.elements) }
+    ensures over { IfOk result (λ s. s.max_value ≡ index.now.documents) }
+    ensures error { IfErr result (IsSearchError (H.contents file.old) (postings_told index.now (H.contents file.old)) (has_waiting_leaf tree.now)) }
+    ensures contents { H.contents file.new ≡ H.contents file.old }
+    ensures size { H.size file.new ≡ H.size file.old }
+    ensures cause { HasCause (H.faults file.old) (H.faults file.new) (result ≡ Err SearchError.Read) }
+    ensures reads { RisesAtMost (H.reads file.old) (H.reads file.new) (2 * length (asked tree.now default_field.now)) }
+{
+    match tree {
+        UserInputAst::Clause(pairs) => {
+            clause_members(alloc, file, index, default_field, pairs.as_slice())
+        }
+        UserInputAst::Boost(inner, _) => {
+            tree_members(alloc, file, index, default_field, inner.get())
+        }
+        UserInputAst::Leaf(leaf) => leaf_members(alloc, file, index, default_field, leaf.get()),
+    }
+}
+
+#[cycle(members)]
+fn clause_members<H: FileHandle>(
+    alloc: Global,
+    file: &mut H,
+    index: &OpenIndex,
+    default_field: &str,
+    pairs: &[(Option<Occur>, UserInputAst)],
+) -> Result<DocSet, SearchError>
+    requires lies { LiesIn index.now (H.size file.old) }
+    ensures found { IfOk result (λ s. Finds (postings_told index.now (H.contents file.old)) (λ doc. satisfies_clause (answered doc default_field.now pairs.now)) s.elements) }
+    ensures over { IfOk result (λ s. s.max_value ≡ index.now.documents) }
+    ensures error { IfErr result (IsSearchError (H.contents file.old) (postings_told index.now (H.contents file.old)) (list_any is_waiting_leaf (leaves_among pairs.now))) }
+    ensures contents { H.contents file.new ≡ H.contents file.old }
+    ensures size { H.size file.new ≡ H.size file.old }
+    ensures cause { HasCause (H.faults file.old) (H.faults file.new) (result ≡ Err SearchError.Read) }
+    ensures reads { RisesAtMost (H.reads file.old) (H.reads file.new) (2 * length (asked_by default_field.now (leaves_among pairs.now))) }
+{
+    let mut joined = JoinedSets::new(index.documents);
+    for pair in pairs {
+        match tree_members(alloc, file, index, default_field, &pair.1) {
+            Ok(members) => join(&mut joined, pair.0, members),
+            Err(error) => return Err(error),
+        }
+    }
+    Ok(joined.into_set())
 }
