@@ -1,6 +1,6 @@
 -- A set of documents by the kind of its members.
 use Rattle.std.proofs.Common.{◌≡◌, ℕ, ◌^◌, ◌<◌, List, All, sym, ap, ◌∙◌, subst}
-use Rattle.std.specs.FinSet.{empty, union, intersection, difference, insert}
+use Rattle.std.specs.FinSet.{empty, union, intersection, difference}
 use Rattle.common_bitset.specs.Numbers.{Numbers, below, IsBelow}
 use Rattle.common_bitset.specs.Subset.{Subset, IsProper}
 use Rattle.document_sets.specs.declared.document_set.Members.{Members}
@@ -97,9 +97,11 @@ with-within n m bits new numbers within is low bound elements =
 
 pub fresh-within : (n : ℕ) (bits new : Subset) (numbers : List ℕ) → n < 2 ^ 32 → bits ≡ record { elements = empty; max_value = n } → All (λ number. number < n) numbers → new.max_value ≡ bits.max_value
     → new.elements ≡ with_numbers bits.elements numbers → (n < 2 ^ 32) × (new.max_value ≡ n) × IsBelow n new.elements
-fresh-within n bits new numbers small fresh low bound elements =
-    (small, bound ∙ ap (λ t. t.max_value) fresh,
-     subst (IsBelow n) (sym (elements ∙ ap (λ t. with_numbers t.elements numbers) fresh)) (IsBelow-with n empty numbers (IsBelow-none n) low))
+fresh-within n bits new numbers small fresh low bound elements = (
+  small,
+  bound ∙ ap (λ t. t.max_value) fresh,
+  subst (IsBelow n) (sym (elements ∙ ap (λ t. with_numbers t.elements numbers) fresh)) (IsBelow-with n empty numbers (IsBelow-none n) low),
+)
 
 pub nothing-small : (n : ℕ) (m : Members) → AreWithin n m → n < 2 ^ 32
 nothing-small n Nothing within = within

@@ -18,7 +18,7 @@ coded_set = coded_option (code coded_ℕ)
 
 abbrev pub joined_code : Coded Joined
 joined_code = code_by (ℕ × (Option Numbers × (Option Numbers × Option Numbers))) (coded× coded_ℕ (coded× coded_set (coded× coded_set coded_set)))
-  (λ j. (j.documents, (j.required, (j.excluded, j.offered)))) (λ p. record { documents = p.0; required = p.1.0; excluded = p.1.1.0; offered = p.1.1.1 }) (λ _. refl)
+    (λ j. (j.documents, (j.required, (j.excluded, j.offered)))) (λ p. record { documents = p.0; required = p.1.0; excluded = p.1.1.0; offered = p.1.1.1 }) (λ _. refl)
 
 -- the elements of a set, where there is one
 abbrev pub elements_in : Option Subset → Option Numbers

@@ -60,7 +60,11 @@ impl DocSet {
     }
 
     /// The set of these numbers.
-    pub fn from_numbers(alloc: Global, documents: u32, numbers: &[u32]) -> Result<DocSet, AllocError>
+    pub fn from_numbers(
+        alloc: Global,
+        documents: u32,
+        numbers: &[u32],
+    ) -> Result<DocSet, AllocError>
         requires { All (λ number. number < documents) numbers.now }
         ensures { IfOk result (λ s. s ≡ record { elements = set.from_list numbers.now; max_value = documents }) }
     {

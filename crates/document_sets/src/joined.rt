@@ -24,10 +24,10 @@ impl Model for JoinedSets {
     ghost coded = { joined_code };
 
     ghost view = { λ j. record {
-        documents = j.documents;
-        required = elements_in j.required;
-        excluded = elements_in j.excluded;
-        offered = elements_in j.offered;
+      documents = j.documents;
+      required = elements_in j.required;
+      excluded = elements_in j.excluded;
+      offered = elements_in j.offered;
     } };
 
     ghost invariant = { λ j. IsOver j.documents j.required × IsOver j.documents j.excluded × IsOver j.documents j.offered };

@@ -1,5 +1,5 @@
 -- What the front and the end of an index file tell of it.
-use Rattle.std.proofs.Common.{◌≡◌, ℕ, ◌+◌, ◌-◌, ◌*◌, ◌<◌, ◌≤◌, List, [], length, take, drop, Option, Some, None, true, false, refl, ap, sym, ◌∙◌, arith, length-drop, drop-drop, Result, Ok, Err, leb}
+use Rattle.std.proofs.Common.{◌≡◌, ℕ, ◌+◌, ◌<◌, ◌≤◌, List, length, take, drop, Option, Some, None, true, false, refl, ap, sym, ◌∙◌, arith, length-drop, drop-drop, Err, leb}
 use Rattle.std.proofs.lemmas.Bool.{leb-true, leb-false}
 use Rattle.std.specs.Int.{Width, byte_len, w32, w64, from_le_bytes}
 use Rattle.std.specs.Prelude.{is_some, not}
@@ -7,8 +7,8 @@ use Rattle.owned_bytes.specs.Front.{◌>>=◌, provided, number_at, bytes_at}
 use Rattle.owned_bytes.specs.Outside.{HasLength}
 use Rattle.sstable_blocks.specs.Codec.{range}
 use Rattle.tantivy_sstable.specs.Table.{sst_of}
-use Rattle.tantivy_sstable.specs.Opening.{version_of, is_known, has_known_version, has_unknown_version, is_waiting}
-use Rattle.tantivy_sstable.proofs.Ends.{at_end-none, number_at_end, number_at-front, bytes_at-front, bytes_at-none}
+use Rattle.tantivy_sstable.specs.Opening.{is_known, has_unknown_version, is_waiting}
+use Rattle.tantivy_sstable.proofs.Ends.{at_end-none, number_at-front, bytes_at-front, bytes_at-none}
 use Rattle.index_file.specs.Header.{Header, packed_length, header_at}
 use Rattle.index_file.specs.IndexFile.{table_of, postings_of}
 use Rattle.index_file.specs.Opening.{IsDamaged, is_waiting_file}
@@ -26,7 +26,7 @@ count_in file = from_le_bytes w64 (take 8 (drop 4 file))
 abbrev behind : ℕ → ℕ → Option (List ℕ × List ℕ) → Option (Header × List ℕ)
 behind documents count o = o >>= (λ packed. Some (record { documents = documents; count = count; packed = packed.0 }, packed.1))
 
-number_at-short : (w : Width) (bytes : List ℕ) → length bytes < byte_len w → number_at w bytes ≡ None
+pub number_at-short : (w : Width) (bytes : List ℕ) → length bytes < byte_len w → number_at w bytes ≡ None
 number_at-short w bytes short = ap (λ o. o >>= (λ (piece : List ℕ × List ℕ). Some (from_le_bytes w piece.0, piece.1))) (bytes_at-none (byte_len w) bytes short)
 
 header_at-by : (file : List ℕ) → 12 ≤ length file

@@ -2,11 +2,17 @@
 use Rattle.std.specs.Prelude.{◌≡◌, ◌⊎◌, ℕ, ◌+◌, ◌-◌, ◌*◌, ◌≤◌, List, [], length, ⊤, true, Option, Some, None, unwrap_or, Result, Ok, Err}
 use Rattle.owned_bytes.specs.Keys.{Key}
 use Rattle.owned_bytes.specs.Outside.{RisesAtMost}
+use Rattle.std.specs.declared.ops.Range.{Range}
+use Rattle.sstable_blocks.specs.Codec.{range}
+use Rattle.sstable_blocks.specs.Run.{Block}
 use Rattle.tantivy_bitpacker.specs.Packed.{bytes_for}
+use Rattle.tantivy_sstable.specs.Opened.{longest, blocks_told}
 use Rattle.tantivy_sstable.specs.Between.{value_at}
 use Rattle.tantivy_sstable.specs.Opening.{is_compressed_at}
 use Rattle.term_documents.specs.Postings.{Postings}
-use Rattle.index_file.specs.Header.{width_of, packed_length}
+use Rattle.index_file.specs.Header.{width_of, packed_length, numbers_in}
+use Rattle.index_reading.specs.Opened.{header_of, postings_told}
+use Rattle.index_reading.specs.Numbers.{GivesPart}
 use Rattle.index_reading.specs.declared.open.OpenIndex.{OpenIndex}
 use Rattle.index_reading.specs.declared.errors.IndexError.{IndexError}
 use Rattle.index_reading.specs.declared.errors.IndexError.TheVariants.{Memory, Read, Corrupt, Compressed, Version, NotYet}
@@ -32,8 +38,26 @@ IsLookUpError NotYet = ⊥
 
 -- a refusal of a compressed block names the place of one, where the contents are told
 abbrev pub NamesCompressed : Option (List ℕ) → IndexError → Type 0
+NamesCompressed None error = ⊤
 NamesCompressed (Some file) (Compressed place) = is_compressed_at place file ≡ true
-NamesCompressed _ _ = ⊤
+NamesCompressed (Some file) _ = ⊤
+
+-- there are such places among so many numbers, and no more of them than documents
+pub record ArePlaces (start end count documents : ℕ) : Type 0 where
+  pub ordered : start ≤ end
+  pub within : end ≤ count
+  pub few : end - start ≤ documents
+
+-- what the numbers from one place to another answer, of those that the file has
+abbrev pub GivesPlaces : OpenIndex → ℕ → ℕ → Result (List ℕ) IndexError → List ℕ → Type 0
+GivesPlaces index start end result file = GivesPart index.documents (numbers_in (header_of index file)) start end result
+
+-- why they fail
+abbrev pub IsPartError : IndexError → Type 0
+IsPartError Memory = Unit {0}
+IsPartError Read = Unit {0}
+IsPartError Corrupt = Unit {0}
+IsPartError _ = ⊥
 
 -- the bytes of the dictionary's blocks
 abbrev pub blocks_length : OpenIndex → ℕ
@@ -44,7 +68,13 @@ abbrev pub numbers_length : OpenIndex → Postings → Key → ℕ
 numbers_length index postings key =
     28 + bytes_for (length (unwrap_or (value_at key postings.entries) []) * width_of index.documents)
 
--- a count rose by no more than the lengths of the blocks and of all packed numbers; or of those of the key, where they are told
-abbrev pub FetchesNumbers : OpenIndex → Option Postings → Key → ℕ → ℕ → Type 0
-FetchesNumbers index None key before now = RisesAtMost before now (blocks_length index + packed_length index.documents index.count)
-FetchesNumbers index (Some postings) key before now = RisesAtMost before now (blocks_length index + numbers_length index postings key)
+-- A count rose by no more than the lengths of the blocks and of all packed numbers; or where the blocks and the postings are
+-- told, of the longest block, the four zero bytes behind the blocks, and the numbers of the key.
+abbrev pub FetchesParts : OpenIndex → Option (List (Block (Range ℕ))) → Option Postings → Key → ℕ → ℕ → Type 0
+FetchesParts index (Some blocks) (Some postings) key before now = RisesAtMost before now (longest blocks + 4 + numbers_length index postings key)
+FetchesParts index _ _ key before now = RisesAtMost before now (blocks_length index + packed_length index.documents index.count)
+
+-- the same by the contents, where they are told
+abbrev pub FetchesNumbers : OpenIndex → Option (List ℕ) → Key → ℕ → ℕ → Type 0
+FetchesNumbers index contents key before now =
+    FetchesParts index (blocks_told range index.dictionary contents) (postings_told index contents) key before now

@@ -1,5 +1,5 @@
 -- What an opened index has in its file.
-use Rattle.std.specs.Prelude.{◌≡◌, ℕ, ◌+◌, ◌<◌, ◌≤◌, List, All, take, drop, true, Option, Some, None, option_and_then}
+use Rattle.std.specs.Prelude.{◌≡◌, ℕ, ◌+◌, ◌<◌, ◌≤◌, List, All, take, drop, true, Option, option_and_then}
 use Rattle.owned_bytes.specs.Front.{◌>>=◌}
 use Rattle.sstable_blocks.specs.Codec.{range}
 use Rattle.tantivy_sstable.specs.Opened.{entries_in}

@@ -1,6 +1,11 @@
 -- What opening an index file answers.
 use Rattle.std.specs.Prelude.{◌≡◌, ℕ, ◌+◌, ◌≤◌, List, [], length, ⊤, true, false, Option, Some, None, unwrap_or, option_map, Result, Ok, Err}
-use Rattle.tantivy_sstable.specs.Opening.{version_of, is_known, is_compressed_at, index_part_of}
+use Rattle.std.specs.declared.ops.Range.{Range}
+use Rattle.owned_bytes.specs.Front.{◌>>=◌}
+use Rattle.sstable_blocks.specs.Codec.{range}
+use Rattle.sstable_blocks.specs.Run.{Block}
+use Rattle.tantivy_sstable.specs.Opened.{blocks_in}
+use Rattle.tantivy_sstable.specs.Opening.{table_blocks, version_of, is_known, is_compressed_at, index_part_of}
 use Rattle.index_file.specs.Header.{header_at}
 use Rattle.index_file.specs.IndexFile.{table_of}
 use Rattle.index_file.specs.Opening.{CanBeOpened, IsDamaged, is_waiting_file}
@@ -9,10 +14,15 @@ use Rattle.index_reading.specs.declared.errors.IndexError.{IndexError}
 use Rattle.index_reading.specs.declared.errors.IndexError.TheVariants.{Memory, Read, Corrupt, Compressed, Version, NotYet}
 use Rattle.index_reading.specs.Opened.{postings_in}
 
--- the file can be opened, and the opened index has what the file tells
+-- the blocks of the file's table
+abbrev pub blocks_of : List ℕ → Option (List (Block (Range ℕ)))
+blocks_of file = header_at file >>= (λ parts. table_blocks range parts.1)
+
+-- the file can be opened, and the opened index has what the file tells, and the blocks of its table
 pub record HasOpened (file : List ℕ) (index : OpenIndex) : Type 0 where
   pub readable : CanBeOpened file
   pub postings : postings_in index file ≡ table_of file
+  pub blocks : blocks_in range index.dictionary file ≡ blocks_of file
 
 -- the file can be opened and is no index, and a compressed block stands at a place
 pub record IsCompressed (file : List ℕ) (place : ℕ) : Type 0 where

@@ -7,8 +7,10 @@
 mod errors;
 mod lookup;
 mod open;
+mod parts;
 #[cfg(test)]
 mod tests;
+mod unpack;
 
 pub use errors::IndexError;
 pub use open::OpenIndex;

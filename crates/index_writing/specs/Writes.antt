@@ -5,6 +5,7 @@ use Rattle.owned_bytes.specs.Outside.{AppendsPrefix}
 use Rattle.tantivy_sstable.specs.Opening.{version_of}
 use Rattle.term_documents.specs.declared.documents.Doc.{Doc}
 use Rattle.term_documents.specs.declared.faults.Fault.TheVariants as faults
+use Rattle.term_documents.specs.declared.faults.PlacedFault.{PlacedFault}
 use Rattle.term_documents.specs.Documents.{AreValidDocuments, documents_size, first_fault}
 use Rattle.index_file.specs.IndexFile.{IsIndexOf}
 use Rattle.index_file.specs.Opening.{is_waiting_file}
@@ -37,6 +38,10 @@ pub record AppendsPart (docs : List Doc) (pages : ℕ) (old new : Option (List �
   pub file : List ℕ
   pub written : IsWrittenFor docs pages file
   pub appended : AppendsPrefix old new file
+
+-- a fault of the documents, as an error
+abbrev pub error_of : PlacedFault → WriteError
+error_of found = elim found.fault [ faults.BadField ↦ BadField found.doc found.pair | faults.KeyTooLong ↦ KeyTooLong found.doc found.pair ]
 
 -- What writing the documents answers, and what the sink tells before and after it.
 abbrev pub Writes : List Doc → ℕ → Option (List ℕ) → Option (List ℕ) → Result (Unit {0}) WriteError → Type 0

@@ -2,7 +2,14 @@
 #![tactic(auto)]
 
 mod errors;
+mod file;
+mod gather;
+mod numbers;
+mod table;
 mod write;
 
 pub use errors::WriteError;
 pub use write::write_index;
+
+#[cfg(test)]
+mod tests;

@@ -1,12 +1,35 @@
 // The whole of writing an index.
 ghost use Rattle.std.specs.Prelude.{◌≡◌, ◌≤◌, Err};
-ghost use Rattle.owned_bytes.specs.Outside.{HasCause};
-ghost use Rattle.index_writing.specs.Writes.{Writes};
+ghost use Rattle.owned_bytes.specs.Outside.{HasCause, WritesAll};
+ghost use Rattle.index_writing.specs.Writes.{Writes, error_of};
 
 use crate::errors::WriteError;
-use owned_bytes::Sink;
+use crate::file::index_bytes;
+use owned_bytes::{Sink, SinkError};
 use std::alloc::Global;
-use term_documents::Doc;
+use term_documents::{Doc, Fault, PlacedFault, documents_size, first_fault};
+
+// The size of documents that a page takes.
+const PAGE_SIZE: u64 = 900_000;
+
+// The same fault.
+fn error_of(found: PlacedFault) -> WriteError
+    ensures { result ≡ error_of found }
+{
+    match found.fault {
+        Fault::BadField => WriteError::BadField(found.doc, found.pair),
+        Fault::KeyTooLong => WriteError::KeyTooLong(found.doc, found.pair),
+    }
+}
+
+// Appends the bytes, and flushes the sink.
+fn write_flushed<W: Sink>(bytes: &[u8], sink: &mut W) -> Result<(), SinkError>
+    ensures bytes { WritesAll (W.written sink.old) (W.written sink.new) result bytes.now }
+    ensures cause { HasCause (W.faults sink.old) (W.faults sink.new) (result ≡ Err SinkError.Failed) }
+{
+    sink.write_all(bytes)?;
+    sink.flush()
+}
 
 /// Appends an index file of the documents to the sink, and flushes it.
 ///
@@ -22,9 +45,21 @@ pub fn write_index<W: Sink>(
     ensures writes { Writes docs.now page_limit (W.written sink.old) (W.written sink.new) result }
     ensures cause { HasCause (W.faults sink.old) (W.faults sink.new) (result ≡ Err WriteError.Write) }
 {
-    let _ = alloc;
-    let _ = docs;
-    let _ = sink;
-    let _ = page_limit;
-    Err(WriteError::Memory)
+    if docs.len() > u32::MAX as usize {
+        return Err(WriteError::TooManyDocuments);
+    }
+    if let Some(found) = first_fault(docs) {
+        return Err(error_of(found));
+    }
+    if documents_size(docs) > PAGE_SIZE * page_limit as u64 {
+        return Err(WriteError::ArenaFull);
+    }
+    let Ok(file) = index_bytes(alloc, docs) else {
+        return Err(WriteError::Memory);
+    };
+    match write_flushed(file.bytes(), sink) {
+        Ok(()) => Ok(()),
+        Err(SinkError::Memory) => Err(WriteError::Memory),
+        Err(SinkError::Failed) => Err(WriteError::Write),
+    }
 }

@@ -9,3 +9,4 @@ pub mod Inserting
 pub mod Finishing
 pub mod RangeTables
 pub mod Standing
+pub mod Fetching

@@ -13,7 +13,7 @@ use Rattle.sstable_blocks.specs.Computes as blocks
 use Rattle.tantivy_sstable.specs.Index.{Index, AtMostOneBlock, Entries, index_of_version, index_v2_of, index_v3_of, map_and_store_of}
 use Rattle.tantivy_sstable.specs.Table.{Parts, Sst, parts_of, blocks_of, blocks_under, entries_under, whole_sst_of, sst_of, indexes}
 use Rattle.tantivy_sstable.specs.Opened.{Opened}
-use Rattle.tantivy_sstable.specs.Opening.{is_known, is_waiting, index_part_of, Opens, OpensAt, FetchesIndex}
+use Rattle.tantivy_sstable.specs.Opening.{is_known, is_waiting, index_part_of, table_blocks, Opens, OpensAt, FetchesIndex}
 use Rattle.tantivy_sstable.specs.Steps.{HasFooter, ReadsFooter, ReadsIndex, EndsWith}
 use Rattle.tantivy_sstable.specs.Shown.{shown_index}
 use Rattle.tantivy_sstable.specs.declared.index.SSTableIndex.{SSTableIndex}
@@ -256,6 +256,18 @@ pub found-is : {V : Type 0} (codec : Codec V) (table : List ℕ) (footer : code.
 unfolding by_index
 found-is codec table footer index h is = sst_of-by_index codec table (parts_by table footer) (Some index) (parts-of table footer h) is
 
+-- the blocks of a table of these parts
+blocks-is : {V : Type 0} (codec : Codec V) (table : List ℕ) (footer : code.Footer) (index : Index) → HasFooter table footer → index_of_version footer.version (drop footer.index_offset (body_of table)) ≡ Some index
+    → table_blocks codec table ≡ blocks_under codec index footer.num_terms (take footer.index_offset (body_of table))
+unfolding whole_sst_of
+blocks-is codec table footer index h is =
+    ap (λ o. option_map (λ (sst : Sst _). sst.blocks) (o >>= (λ (parts : Parts). index_of_version parts.version parts.index_part >>= (λ index. blocks_under codec index parts.count parts.front >>= (λ blocks.
+    Some (record { blocks = blocks; index_part = parts.index_part; version = parts.version })))))) (parts-of table footer h)
+    ∙ ap (λ o. option_map (λ (sst : Sst _). sst.blocks) (o >>= (λ index. blocks_under codec index footer.num_terms (take footer.index_offset (body_of table)) >>= (λ blocks.
+    Some (record { blocks = blocks; index_part = drop footer.index_offset (body_of table); version = footer.version }))))) is
+    ∙ elim (blocks_under codec index footer.num_terms (take footer.index_offset (body_of table))) as (λ o. option_map (λ (sst : Sst _). sst.blocks) (o >>= (λ blocks. Some (record { blocks = blocks; index_part = drop footer.index_offset (body_of table); version = footer.version }))) ≡ o)
+    [ None ↦ refl | Some blocks ↦ refl ]
+
 -- the front of a table stands at the front of its range
 front-of_table : (bytes : List ℕ) (file : Span) (offset : ℕ) → file.start ≤ file.end → file.end ≤ length bytes → offset + 20 ≤ file.end - file.start
     → slice_range bytes file.start (file.start + offset) ≡ take offset (body_of (table_at bytes file))
@@ -293,6 +305,8 @@ opens-found codec (Some bytes) file front part footer index size long ordered fi
       waits-not (table_at bytes file) part footer index told whole reads,
       ap (entries_under codec (shown_index index) footer.num_terms) here
           ∙ sym (found-is codec (table_at bytes file) footer (shown_index index) told (index-is (table_at bytes file) part footer index told whole reads)),
+      ap (blocks_under codec (shown_index index) footer.num_terms) here
+          ∙ sym (blocks-is codec (table_at bytes file) footer (shown_index index) told (index-is (table_at bytes file) part footer index told whole reads)),
     )
 
 -- a span with these bounds

@@ -4,10 +4,11 @@ use Rattle.std.specs.Int.{w8, w32, w64}
 use Rattle.common_wire.specs.Slices.{Span}
 use Rattle.owned_bytes.specs.Front.{◌>>=◌, provided, number_at}
 use Rattle.sstable_blocks.specs.Codec.{Codec}
+use Rattle.sstable_blocks.specs.Run.{Block}
 use Rattle.tantivy_sstable.specs.Footer.{footer_at}
 use Rattle.tantivy_sstable.specs.Index.{at_end}
-use Rattle.tantivy_sstable.specs.Table.{parts_of, sst_of}
-use Rattle.tantivy_sstable.specs.Opened.{Opened, entries_in}
+use Rattle.tantivy_sstable.specs.Table.{parts_of, whole_sst_of, sst_of}
+use Rattle.tantivy_sstable.specs.Opened.{Opened, entries_in, blocks_in}
 use Rattle.tantivy_sstable.specs.declared.errors.SstError.{SstError}
 use Rattle.tantivy_sstable.specs.declared.errors.SstError.TheVariants.{Memory, Read, Corrupt, Compressed, Version, NotYet}
 
@@ -48,11 +49,16 @@ is_compressed_at place table = is_some do
   compress ← number_at w8 len.1
   provided (nat_le 2 len.0 && (compress.0 == 1))
 
--- What opening a table answers, by its bytes and those of the file that it stands in. A dictionary has the entries of
--- the table, and none where the table is damaged.
+-- the blocks of a table
+abbrev pub table_blocks : {V : Type 0} → Codec V → List ℕ → Option (List (Block V))
+table_blocks codec table = option_map (λ sst. sst.blocks) (whole_sst_of codec table)
+
+-- What opening a table answers, by its bytes and those of the file that it stands in. A dictionary has the entries and
+-- the blocks of the table, and none where the table is damaged.
 abbrev pub Opens : {V : Type 0} → Codec V → List ℕ → List ℕ → Result Opened SstError → Type 0
 Opens codec contents table (Ok opened) =
     (has_known_version table ≡ true) × (is_waiting table ≡ false) × (entries_in codec opened contents ≡ sst_of codec table)
+    × (blocks_in codec opened contents ≡ table_blocks codec table)
 Opens codec contents table (Err Memory) = ⊤
 Opens codec contents table (Err Read) = ⊤
 Opens codec contents table (Err Corrupt) =

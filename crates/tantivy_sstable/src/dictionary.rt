@@ -3,7 +3,7 @@ ghost use Rattle.std.specs.Prelude.{◌≡◌, ◌≢◌, ◌≤◌, ◌+◌, �
 ghost use Rattle.std.specs.Int.{w32, w64, from_le_bytes};
 ghost use Rattle.owned_bytes.specs.Outside.{HasCause, RisesAtMost, IsPart};
 ghost use Rattle.tantivy_sstable.specs.Opening.{Opens, OpensAt, without_file, FetchesIndex, LiesWithin, IsReadError, is_known};
-ghost use Rattle.tantivy_sstable.specs.Opened.{entries_told};
+ghost use Rattle.tantivy_sstable.specs.Opened.{entries_told, blocks_told, FetchesBlock};
 ghost use Rattle.tantivy_sstable.specs.Reading.{FindsTold, IsReadingError, TellsPlaceAt};
 ghost use Rattle.tantivy_sstable.specs.Steps.{ReadsFooter, ReadsIndex};
 
@@ -156,6 +156,7 @@ impl<S: SSTable> Dictionary<S> {
         ensures cause { HasCause (H.faults handle.old) (H.faults handle.new) (result ≡ Err SstError.Read) }
         ensures reads { RisesAtMost (H.reads handle.old) (H.reads handle.new) 1 }
         ensures fetched { RisesAtMost (H.fetched handle.old) (H.fetched handle.new) (self.now.blocks_range.end - self.now.blocks_range.start) }
+        ensures block { FetchesBlock (blocks_told S.ValueReader.codec self.now (H.contents handle.old)) (H.fetched handle.old) (H.fetched handle.new) }
     {
         if let SSTableIndex::V2(_) = &self.sstable_index {
             return Ok(None);

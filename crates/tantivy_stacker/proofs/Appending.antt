@@ -1,13 +1,12 @@
 -- A write to a list while it goes on, and what it leaves.
-use Rattle.std.proofs.Common.{◌≡◌, ℕ, ◌+◌, ◌-◌, ◌<◌, ◌≤◌, ◌⊎◌, inl, inr, List, [], ◌∷◌, ◌++◌, length, take, drop, refl, sym, ap, subst, ◌∙◌, arith, length-append, length-drop}
-use Rattle.std.specs.List.{All}
+use Rattle.std.proofs.Common.{◌≡◌, ℕ, ◌+◌, ◌-◌, ◌<◌, ◌≤◌, ◌⊎◌, inl, inr, List, [], ◌++◌, length, take, drop, refl, sym, ap, subst, ◌∙◌, arith, length-append}
 use Rattle.std.proofs.lemmas.List.{append-nil, append_assoc, take-append-drop, take_rest, nil_from_length}
 use Rattle.std.proofs.lemmas.List.Elements.{All-nil}
 use Rattle.tantivy_stacker.specs.declared.expull.ExpUnrolledLinkedList.{ExpUnrolledLinkedList}
-use Rattle.tantivy_stacker.specs.Arena.{Arena, Lies, bytes_at, top, spent, IsFull, Keeps}
-use Rattle.tantivy_stacker.specs.Lists.{block_size, IsChain, last_block, block_places, block_count, used, IsLaidOut, IsHeld, list_bytes, list_places, IsApart, KeepsBut, free_start, free_end, room, blocks_room, Extends, ListWrite}
+use Rattle.tantivy_stacker.specs.Arena.{Arena, spent, Keeps}
+use Rattle.tantivy_stacker.specs.Lists.{block_size, last_block, IsLaidOut, IsHeld, list_bytes, list_places, IsApart, KeepsBut, free_start, free_end, room, Extends, ListWrite}
 use Rattle.tantivy_stacker.proofs.Chains.{last_block-place}
-use Rattle.tantivy_stacker.proofs.Lists.{Extends-refl, Extends-then, ListStays, list_kept, cases_blocks, laid-some, places-some, places-none, free-none, free-some}
+use Rattle.tantivy_stacker.proofs.Lists.{Extends-refl, Extends-then, ListStays, list_kept, cases_blocks, laid-some, places-some, free-none, free-some}
 use Rattle.tantivy_stacker.proofs.Room.{room-mono, room_of_held, room_of_more}
 
 -- The list has been extended by the bytes up to `rest`.

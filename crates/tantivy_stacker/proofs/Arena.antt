@@ -1,12 +1,11 @@
 -- What handing out space and writing do to an arena.
-use Rattle.std.proofs.Common.{◌≡◌, ◌≢◌, ℕ, ◌+◌, ◌-◌, ◌*◌, ◌/◌, ◌%◌, ◌<◌, ◌≤◌, ◌⊎◌, inl, inr, List, [], ◌∷◌, ◌++◌, length, take, drop, get_or, set, replicate, refl, sym, ap, subst, ◌∙◌, arith, rules, length-append, length-drop, length-set, Bool, true, false, cond, leb, Result, Ok, Err, IfOk, OnOk}
+use Rattle.std.proofs.Common.{◌≡◌, ◌≢◌, ℕ, ◌+◌, ◌-◌, ◌*◌, ◌/◌, ◌%◌, ◌<◌, ◌≤◌, ◌⊎◌, inl, inr, List, [], ◌∷◌, ◌++◌, length, take, drop, set, replicate, refl, sym, ap, subst, ◌∙◌, arith, length-append, length-drop, length-set, Bool, true, false, cond, Result, Ok, Err, IfOk, OnOk}
 use Rattle.std.proofs.lemmas.List.{get_or-set_same, get_or-set_other, get_or_append_left, length-replicate, length_push, get_or_push, append-nil}
-use Rattle.std.proofs.lemmas.Bool.{cases_lt, cases_eq}
+use Rattle.std.proofs.lemmas.Bool.{cases_eq}
 use Rattle.std.proofs.lemmas.Nat.{div-mul-add, mod-mul-add}
 use Rattle.std.proofs.lemmas.List.Sums.{sum_by-set, sum_by-append}
-use Rattle.std.specs.List.{sum_by}
 use borrow.Author.Tests.{leb-true, leb-false}
-use Rattle.tantivy_stacker.specs.Arena.{Arena, page_bytes, page, last_page, Lies, bytes_at, top, spent, IsFull, has_room, next_place, with_space, with_slice, HasNoSpace, put, put_on_page, Keeps, HandsOut, Writes, IsAtLimit}
+use Rattle.tantivy_stacker.specs.Arena.{Arena, page_bytes, page, last_page, Lies, bytes_at, top, spent, IsFull, has_room, next_place, with_space, with_slice, put, put_on_page, Keeps, HandsOut, Writes}
 use Rattle.tantivy_stacker.proofs.Pages.{part-append, length-put, part-put_before, part-put_after, part-put_same, take-put}
 
 -- each page is the old one with more bytes behind it

@@ -1,8 +1,8 @@
 -- Chains of blocks: what they keep while other places change, and how they grow.
-use Rattle.std.proofs.Common.{◌≡◌, ℕ, zero, suc, ◌+◌, ◌-◌, ◌*◌, ◌/◌, ◌%◌, ◌^◌, ◌<◌, ◌≤◌, ◌⊎◌, inl, inr, min, List, [], ◌∷◌, ◌++◌, length, take, drop, refl, sym, ap, subst, ◌∙◌, arith, length-append, length-take, length-drop}
+use Rattle.std.proofs.Common.{◌≡◌, ℕ, zero, suc, ◌+◌, ◌*◌, ◌/◌, ◌%◌, ◌<◌, ◌≤◌, ◌⊎◌, inl, inr, min, List, [], ◌∷◌, ◌++◌, length, take, drop, refl, sym, ap, subst, ◌∙◌, arith, length-drop}
 use Rattle.std.specs.Int.{w32, from_le_bytes}
 use Rattle.std.specs.List.{All}
-use Rattle.std.proofs.lemmas.List.{append-nil, append_assoc, drop-drop, take-take, length-take-le}
+use Rattle.std.proofs.lemmas.List.{append-nil, append_assoc, drop-drop, length-take-le}
 use Rattle.std.proofs.Math.Seq.{take-add}
 use Rattle.std.proofs.lemmas.Nat.{div-mul-add, mod-mul-add, pow_pos}
 use Rattle.tantivy_stacker.specs.Arena.{Arena, page_bytes, page, Lies, bytes_at, top, Keeps}

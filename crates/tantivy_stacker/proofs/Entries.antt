@@ -1,12 +1,11 @@
 -- The entries of a map, and the search for one.
-use Rattle.std.proofs.Common.{◌≡◌, ◌≢◌, ℕ, zero, suc, ◌+◌, ◌-◌, ◌%◌, ◌^◌, ◌<◌, ◌≤◌, ◌⊎◌, inl, inr, Bool, true, false, List, [], ◌∷◌, ◌++◌, length, get_or, refl, sym, ap, subst, ◌∙◌, arith, count_by}
-use Rattle.std.specs.Int.{w16, from_le_bytes}
+use Rattle.std.proofs.Common.{◌≡◌, ◌≢◌, ℕ, ◌+◌, ◌%◌, ◌^◌, ◌<◌, ◌≤◌, inl, inr, List, length, sym, ap, subst, ◌∙◌, arith}
 use Rattle.std.proofs.Math.Nat.{mod-eq_of_lt}
 use Rattle.std.proofs.lemmas.Bool.{cases_lt, cases_eq}
-use Rattle.tantivy_stacker.specs.Arena.{Arena, Lies, bytes_at}
+use Rattle.tantivy_stacker.specs.Arena.{Arena, Lies}
 use Rattle.tantivy_stacker.specs.Hashing.{hash_of}
-use Rattle.tantivy_stacker.specs.Maps.{Table, place, is_taken, IsTaken, home, turn, Leads, IsFiled, key_length, key_at, value_place, entry_size, IsHeldMap, HasEntry, Finds}
-use Rattle.tantivy_stacker.specs.Probes.{IsSearchable, IsAt, IsAbsent, IsFreeFor}
+use Rattle.tantivy_stacker.specs.Maps.{Table, place, IsTaken, home, turn, key_length, key_at, IsHeldMap}
+use Rattle.tantivy_stacker.specs.Probes.{IsSearchable, IsFreeFor}
 use Rattle.tantivy_stacker.proofs.Chains.{Lies-front, Lies-back}
 use Rattle.tantivy_stacker.proofs.Lists.{Lies-small}
 use borrow.Author.Count.{below_more}

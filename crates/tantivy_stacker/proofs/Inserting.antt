@@ -1,18 +1,14 @@
 -- A new entry in a map.
-use Rattle.std.proofs.Common.{◌≡◌, ◌≢◌, ℕ, zero, suc, ◌+◌, ◌-◌, ◌%◌, ◌^◌, ◌<◌, ◌≤◌, ◌⊎◌, inl, inr, Bool, true, false, not, cond, List, [], ◌∷◌, ◌++◌, length, get_or, set, refl, sym, ap, subst, ◌∙◌, arith, count_by, length-set}
+use Rattle.std.proofs.Common.{◌≡◌, ◌≢◌, ℕ, ◌+◌, ◌<◌, ◌≤◌, ◌⊎◌, inl, inr, Bool, not, cond, List, length, set, sym, ap, subst, ◌∙◌, arith, count_by, length-set}
 use Rattle.std.specs.Int.{w16, from_le_bytes}
-use Rattle.std.proofs.lemmas.Bool.{cases_lt, cases_eq, ne_eqb, eq-eqb}
+use Rattle.std.proofs.lemmas.Bool.{cases_eq, ne_eqb, eq-eqb}
 use Rattle.std.proofs.lemmas.List.{get_or-set_same, get_or-set_other}
 use Rattle.std.proofs.lemmas.List.Sums.{sum_by-set}
-use Rattle.tantivy_stacker.specs.Arena.{Arena, Lies, bytes_at, top, spent, IsFull, Keeps, HandsOut, Writes}
-use Rattle.tantivy_stacker.specs.Hashing.{hash_of}
-use Rattle.tantivy_stacker.specs.Maps.{Table, place, is_taken, IsTaken, home, turn, Leads, IsFiled, key_length, key_at, value_place, entry_size, IsHeldMap, HasEntry, Finds, EntryWritten}
-use Rattle.tantivy_stacker.specs.Probes.{IsFreeFor}
-use Rattle.tantivy_stacker.proofs.Arena.{Lies-top, Keeps-then, Keeps-wider}
-use Rattle.tantivy_stacker.proofs.Chains.{Lies-front, Lies-back, Keeps-fresh}
-use Rattle.tantivy_stacker.proofs.Lists.{Lies-small}
+use Rattle.tantivy_stacker.specs.Arena.{Arena, Lies, bytes_at, Keeps, Writes}
+use Rattle.tantivy_stacker.specs.Maps.{place, is_taken, IsTaken, home, turn, Leads, IsFiled, key_length, key_at, value_place, EntryWritten}
+use Rattle.tantivy_stacker.proofs.Arena.{Keeps-then, Keeps-wider}
+use Rattle.tantivy_stacker.proofs.Chains.{Lies-front, Lies-back}
 use Rattle.tantivy_stacker.proofs.Entries.{key_lies, value_lies}
-use Rattle.tantivy_stacker.proofs.Tables.{taken-below}
 
 -- ---- what stays of an entry
 pub key_length_same : (a c : Arena) (s f e m : ℕ) → Keeps a c s f → Lies a e (2 + m) → (e + 2 ≤ s) ⊎ (f ≤ e) → key_length c e ≡ key_length a e

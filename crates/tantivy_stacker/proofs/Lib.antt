@@ -6,6 +6,7 @@ pub mod Room
 pub mod Appending
 pub mod Reading
 pub mod ListFacts
+pub mod Tenants
 pub mod Halves
 pub mod Tables
 pub mod Hashes
@@ -17,3 +18,4 @@ pub mod Mutating
 pub mod MapFacts
 pub mod Iterating
 pub mod Listing
+pub mod BesideFacts

@@ -1,14 +1,14 @@
 -- The laws of arenas and lists.
-use Rattle.std.proofs.Common.{◌≡◌, ℕ, zero, suc, ◌+◌, ◌-◌, ◌*◌, ◌^◌, ◌<◌, ◌≤◌, ◌⊎◌, inl, inr, min, List, [], ◌∷◌, ◌++◌, length, refl, sym, ap, subst, ◌∙◌, arith}
+use Rattle.std.proofs.Common.{◌≡◌, ℕ, zero, suc, ◌+◌, ◌-◌, ◌*◌, ◌≤◌, inl, inr, min, List, [], refl, sym, ap, subst, ◌∙◌, arith}
 use Rattle.std.specs.List.{All}
 use Rattle.std.proofs.lemmas.List.Elements.{All-nil, All-cons}
 use Rattle.std.proofs.lemmas.Bool.{cases_eq, cases_lt}
 use Rattle.std.proofs.Math.Nat.{pow-suc, pow-le-pow_right}
 use Rattle.tantivy_stacker.specs.declared.expull.ExpUnrolledLinkedList.{ExpUnrolledLinkedList}
-use Rattle.tantivy_stacker.specs.Arena.{Arena, Lies, bytes_at, top}
-use Rattle.tantivy_stacker.specs.Lists.{block_size, next_block, IsChain, last_block, block_places, block_count, used, IsLaidOutBy, IsLaidOut, IsHeld, IsEmptyList, list_bytes, list_places, IsApart, KeepsBut, room, room_from, Holds, EmptyIsHeld, OthersStay, PlacesLie, LiesBeforeTop, RoomIsBounded, RoomGrows}
+use Rattle.tantivy_stacker.specs.Arena.{Arena, Lies}
+use Rattle.tantivy_stacker.specs.Lists.{block_size, next_block, IsChain, last_block, block_places, used, IsLaidOutBy, IsLaidOut, IsEmptyList, list_places, IsApart, KeepsBut, room, room_from, EmptyIsHeld, OthersStay, PlacesLie, LiesBeforeTop, RoomIsBounded, RoomGrows}
 use Rattle.tantivy_stacker.proofs.Arena.{Lies-top}
-use Rattle.tantivy_stacker.proofs.Chains.{block_size-some, last_block-lies, Lies-front, ChainStays, Chain-apart, IsApart-part, last_block-place}
+use Rattle.tantivy_stacker.proofs.Chains.{last_block-lies, Lies-front, Chain-apart, IsApart-part}
 use Rattle.tantivy_stacker.proofs.Lists.{ListStays, none_stays, some_stays, none_count, bytes-none, places-none, places-some, laid-some, cases_blocks}
 use Rattle.tantivy_stacker.proofs.Room.{room-mono, room_from-zero, room_from-some}
 

@@ -1,11 +1,10 @@
 -- The entries of a map, as its iterator gives them.
-use Rattle.std.proofs.Common.{◌≡◌, ◌≢◌, ℕ, zero, suc, ◌+◌, ◌-◌, ◌<◌, ◌≤◌, Bool, true, false, not, map, filter, List, [], ◌∷◌, length, get_or, refl, sym, ap, subst, ◌∙◌, arith, count_by}
-use Rattle.std.specs.List.{Contains}
+use Rattle.std.proofs.Common.{◌≡◌, ◌≢◌, ℕ, zero, suc, ◌<◌, ◌≤◌, Bool, true, false, not, filter, List, [], ◌∷◌, length, get_or, refl, sym, ap, subst, ◌∙◌, arith}
 use Rattle.std.proofs.lemmas.Bool.{ne_eqb, eq-eqb, false≢true}
 use Rattle.std.proofs.lemmas.List.{get_or-map, length-map}
 use Rattle.std.proofs.lemmas.List.Sums.{length-filter}
 use Rattle.tantivy_stacker.specs.Arena.{Arena, Lies, bytes_at}
-use Rattle.tantivy_stacker.specs.Maps.{Table, place, is_taken, IsTaken, key_at, value_place, entry_size, IsHeldMap, HasEntry, AreEntries, entries_of}
+use Rattle.tantivy_stacker.specs.Maps.{Table, place, is_taken, IsTaken, key_at, value_place, IsHeldMap, AreEntries, entries_of}
 use Rattle.tantivy_stacker.proofs.Entries.{value_lies}
 use Rattle.tantivy_stacker.proofs.Maps.{filter-cons_yes, filter-cons_no}
 

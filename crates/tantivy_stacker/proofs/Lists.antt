@@ -1,17 +1,15 @@
 -- What the steps of a write do to a list.
-use Rattle.std.proofs.Common.{◌≡◌, ℕ, zero, suc, ◌+◌, ◌-◌, ◌*◌, ◌/◌, ◌%◌, ◌^◌, ◌<◌, ◌≤◌, ◌⊎◌, inl, inr, min, Bool, true, false, cond, eqb, List, [], ◌∷◌, ◌++◌, length, take, drop, refl, sym, ap, subst, ◌∙◌, arith, length-append}
+use Rattle.std.proofs.Common.{◌≡◌, ℕ, suc, ◌+◌, ◌-◌, ◌%◌, ◌^◌, ◌<◌, ◌≤◌, ◌⊎◌, inl, inr, min, false, cond, eqb, List, [], ◌∷◌, ◌++◌, length, take, refl, sym, ap, subst, ◌∙◌, arith}
 use Rattle.std.specs.Int.{w32, from_le_bytes}
-use Rattle.std.specs.List.{All}
 use Rattle.std.proofs.lemmas.List.{append-nil, append_assoc, length-take-le}
 use Rattle.std.proofs.lemmas.List.Elements.{All-nil, All-cons, All-append}
-use Rattle.std.proofs.lemmas.Nat.{pow_pos}
 use Rattle.std.proofs.lemmas.Bool.{cases_eq, ne_eqb}
 use Rattle.std.proofs.Math.Nat.{pow-le-pow_right, mod-eq_of_lt}
 use Rattle.tantivy_stacker.specs.declared.expull.ExpUnrolledLinkedList.{ExpUnrolledLinkedList}
-use Rattle.tantivy_stacker.specs.Arena.{Arena, page_bytes, Lies, bytes_at, top, spent, IsFull, Keeps, HandsOut, Writes}
-use Rattle.tantivy_stacker.specs.Lists.{block_size, next_block, IsChain, last_block, full_blocks, block_places, block_count, used, bytes_of, places_of, IsLaidOutBy, list_bytes, list_places, IsLaidOut, IsHeld, IsApart, KeepsBut, free_start, free_end, blocks_room, HasNewBlock, Extends}
+use Rattle.tantivy_stacker.specs.Arena.{Arena, Lies, bytes_at, top, Keeps, HandsOut, Writes}
+use Rattle.tantivy_stacker.specs.Lists.{block_size, next_block, IsChain, last_block, full_blocks, block_places, block_count, used, bytes_of, places_of, IsLaidOutBy, list_bytes, list_places, IsLaidOut, free_start, free_end, blocks_room, HasNewBlock, Extends}
 use Rattle.tantivy_stacker.proofs.Arena.{Lies-top, Keeps-then, Keeps-wider}
-use Rattle.tantivy_stacker.proofs.Chains.{Lies-front, Lies-back, bytes_at-split, Keeps-all, Keeps-fresh, block_size-some, last_block-above, last_block-lies, ChainStays, Chain-kept, ChainGrows, Chain-grown}
+use Rattle.tantivy_stacker.proofs.Chains.{Lies-front, Lies-back, bytes_at-split, Keeps-all, Keeps-fresh, last_block-above, last_block-lies, ChainStays, Chain-kept, Chain-grown}
 
 -- ---- a list of no block, and of n + 1 blocks
 module _ (a : Arena) (l : ExpUnrolledLinkedList) (none : l.block_num ≡ 2) where

@@ -1,12 +1,12 @@
 -- The laws of maps.
-use Rattle.std.proofs.Common.{◌≡◌, ◌≢◌, ℕ, zero, suc, ◌+◌, ◌-◌, ◌<◌, ◌≤◌, ◌⊎◌, inl, inr, Bool, true, false, not, cond, map, filter, List, [], ◌∷◌, ◌++◌, length, take, get_or, replicate, refl, sym, ap, subst, ◌∙◌, arith, count_by}
+use Rattle.std.proofs.Common.{◌≡◌, ℕ, zero, suc, ◌+◌, ◌-◌, ◌≤◌, inl, inr, Bool, true, false, not, filter, List, [], ◌∷◌, ◌++◌, length, take, replicate, refl, sym, ap, subst, ◌∙◌, arith, count_by}
 use Rattle.std.specs.List.{All}
-use Rattle.std.proofs.lemmas.Bool.{cases_lt, cases_eq, ne_eqb, eq-eqb, false≢true}
+use Rattle.std.proofs.lemmas.Bool.{ne_eqb, eq-eqb, false≢true}
 use Rattle.std.proofs.lemmas.List.{length-replicate}
 use Rattle.tantivy_stacker.specs.Arena.{Arena, Lies, bytes_at}
 use Rattle.tantivy_stacker.specs.Lists.{IsApart, KeepsBut}
 use Rattle.tantivy_stacker.specs.Hashing.{hash_of}
-use Rattle.tantivy_stacker.specs.Maps.{Table, place, is_taken, IsTaken, key_length, key_at, value_place, entry_size, IsHeldMap, HasEntry, MapStays, map_places, IsEmptyMap, EmptyMapIsHeld, EmptyMapHasNone, EntriesAreOne, OtherMapsStay}
+use Rattle.tantivy_stacker.specs.Maps.{Table, place, is_taken, IsTaken, key_length, key_at, value_place, entry_size, map_places, IsEmptyMap, EmptyMapIsHeld, EmptyMapHasNone, EntriesAreOne, OtherMapsStay}
 use Rattle.std.specs.Int.{w16, from_le_bytes}
 use Rattle.tantivy_stacker.proofs.Chains.{Lies-front, IsApart-part}
 use Rattle.tantivy_stacker.proofs.Entries.{key_lies, value_lies}

@@ -1,13 +1,13 @@
 -- A map after a new entry, and after a new value of an entry.
-use Rattle.std.proofs.Common.{map, filter, not, cond, ◌≡◌, ◌≢◌, ℕ, zero, suc, ◌+◌, ◌-◌, ◌%◌, ◌^◌, ◌<◌, ◌≤◌, ◌⊎◌, inl, inr, Bool, true, false, List, [], ◌∷◌, ◌++◌, length, get_or, set, refl, sym, ap, subst, ◌∙◌, arith, count_by}
-use Rattle.std.proofs.lemmas.Bool.{cases_lt, cases_eq, ne_eqb}
-use Rattle.tantivy_stacker.specs.Arena.{Arena, Lies, bytes_at, top, spent, IsFull, Keeps, HandsOut, Writes}
+use Rattle.std.proofs.Common.{map, filter, not, cond, ◌≡◌, ◌≢◌, ℕ, zero, suc, ◌+◌, ◌<◌, ◌≤◌, ◌⊎◌, inl, inr, Bool, true, false, List, [], ◌∷◌, length, get_or, set, refl, sym, ap, subst, ◌∙◌, arith}
+use Rattle.std.proofs.lemmas.Bool.{cases_eq, ne_eqb}
+use Rattle.tantivy_stacker.specs.Arena.{Arena, Lies, bytes_at, Keeps, HandsOut, Writes}
 use Rattle.tantivy_stacker.specs.Hashing.{hash_of}
-use Rattle.tantivy_stacker.specs.Maps.{Table, place, is_taken, IsTaken, home, turn, Leads, IsFiled, key_length, key_at, value_place, entry_size, IsHeldMap, HasEntry, Finds, EntryWritten, MapPuts, MapWrite, map_places}
-use Rattle.tantivy_stacker.specs.Lists.{IsApart, KeepsBut}
+use Rattle.tantivy_stacker.specs.Maps.{Table, place, is_taken, IsTaken, IsFiled, key_length, key_at, value_place, entry_size, IsHeldMap, EntryWritten, MapPuts, MapWrite, map_places}
+use Rattle.tantivy_stacker.specs.Lists.{IsApart}
 use Rattle.tantivy_stacker.specs.Probes.{IsAt, IsFreeFor}
-use Rattle.tantivy_stacker.proofs.Arena.{Lies-top, Keeps-then, Keeps-wider}
-use Rattle.tantivy_stacker.proofs.Chains.{Lies-front, Lies-back, Keeps-fresh}
+use Rattle.tantivy_stacker.proofs.Arena.{Lies-top}
+use Rattle.tantivy_stacker.proofs.Chains.{Keeps-fresh}
 use Rattle.tantivy_stacker.proofs.Lists.{Lies-small}
 use Rattle.tantivy_stacker.proofs.Inserting.{key_same, value_same, put_here, put_there, put_length, put_filed, put_filed_here, put_count, cases_put, still_taken}
 use Rattle.std.proofs.lemmas.List.{get_or_read}

@@ -1,7 +1,7 @@
 -- A call on a map that first made room in its table.
-use Rattle.std.proofs.Common.{◌≡◌, ◌≢◌, ℕ, ◌+◌, ◌*◌, ◌<◌, ◌≤◌, ◌⊎◌, inl, inr, List, length, refl, sym, ap, subst, ◌∙◌, arith, Option, Result, Ok, Err, OnOk, OnErr, IfOk, IfErr}
+use Rattle.std.proofs.Common.{◌≡◌, ℕ, ◌+◌, ◌*◌, ◌<◌, ◌≤◌, ◌⊎◌, inl, inr, List, length, sym, subst, arith, Option, Result, Ok, Err, OnOk, OnErr, IfOk, IfErr}
 use Rattle.tantivy_stacker.specs.Arena.{Arena}
-use Rattle.tantivy_stacker.specs.Maps.{Table, IsHeldMap, HasEntry, MapStays, MapPuts, MapWrite, Finds, Rehashes}
+use Rattle.tantivy_stacker.specs.Maps.{Table, IsHeldMap, MapStays, MapPuts, MapWrite, Finds, Rehashes}
 use Rattle.tantivy_stacker.specs.Probes.{IsAbsent}
 use Rattle.tantivy_stacker.proofs.Rehashing.{rehashed_held, rehashed_stays, finds_after, puts_after, absent_after, write_after, rehashed_write, same_write, same_stays}
 

@@ -1,6 +1,6 @@
 -- Parts of a page after more bytes were handed out on it, or after a write.
-use Rattle.std.proofs.Common.{◌≡◌, ℕ, ◌+◌, ◌-◌, ◌<◌, ◌≤◌, List, [], ◌∷◌, ◌++◌, length, take, drop, get_or, refl, sym, ap, ◌∙◌, arith, rules, length-append, length-drop}
-use Rattle.std.proofs.lemmas.List.{take-append-le, drop-append-le, drop-take, take-take, drop-drop, take_at, drop_at, drop_all, take_all, append-nil, length-take, same_lists, places, append_assoc, length-take-le}
+use Rattle.std.proofs.Common.{◌≡◌, ℕ, ◌+◌, ◌-◌, ◌≤◌, List, [], ◌++◌, length, take, drop, refl, sym, ap, ◌∙◌, arith, length-append, length-drop}
+use Rattle.std.proofs.lemmas.List.{take-append-le, drop-append-le, drop-take, take-take, drop-drop, take_at, drop_at, drop_all, take_all, append-nil, length-take, append_assoc, length-take-le}
 use Rattle.tantivy_stacker.specs.Arena.{put_on_page}
 
 pub part-append : (o n : ℕ) (xs zs : List ℕ) → o + n ≤ length xs → take n (drop o (xs ++ zs)) ≡ take n (drop o xs)

@@ -1,5 +1,5 @@
 -- A list while it is read.
-use Rattle.std.proofs.Common.{◌≡◌, ℕ, zero, suc, ◌+◌, ◌-◌, ◌*◌, ◌%◌, ◌^◌, ◌<◌, ◌≤◌, List, [], ◌∷◌, ◌++◌, length, take, drop, refl, sym, ap, subst, ◌∙◌, arith, Bool, true, false, cond, Result, Ok, Err, OnOk}
+use Rattle.std.proofs.Common.{◌≡◌, ℕ, zero, suc, ◌+◌, ◌-◌, ◌%◌, ◌^◌, ◌<◌, ◌≤◌, List, [], ◌++◌, length, refl, sym, ap, subst, ◌∙◌, arith, cond, Result, Ok, Err, OnOk}
 use Rattle.std.specs.Result.{is_ok}
 use Rattle.std.specs.Int.{w32, from_le_bytes}
 use Rattle.std.proofs.lemmas.List.{append-nil, append_assoc}
@@ -7,8 +7,8 @@ use Rattle.std.proofs.Math.Nat.{mod-eq_of_lt}
 use Rattle.tantivy_stacker.specs.declared.expull.ExpUnrolledLinkedList.{ExpUnrolledLinkedList}
 use Rattle.tantivy_stacker.specs.Arena.{Arena, Lies, bytes_at}
 use Rattle.tantivy_stacker.specs.Lists.{block_size, next_block, IsChain, last_block, full_blocks, used, IsLaidOut, list_bytes}
-use Rattle.tantivy_stacker.proofs.Chains.{Lies-front, Lies-back, last_block-lies, last_block-above}
-use Rattle.tantivy_stacker.proofs.Lists.{bytes-none, bytes-some, laid-some, Lies-small, rest_bound}
+use Rattle.tantivy_stacker.proofs.Chains.{Lies-front, Lies-back, last_block-lies}
+use Rattle.tantivy_stacker.proofs.Lists.{bytes-none, bytes-some, laid-some, Lies-small}
 
 -- Before block b at address p: the rest of the chain, and what the output holds.
 pub record IsReading (a : Arena) (l : ExpUnrolledLinkedList) (b p : ℕ) (before output : List ℕ) : Type 0 where

@@ -1,16 +1,16 @@
 -- A table that is filled from another one.
-use Rattle.std.proofs.Common.{◌≡◌, ◌≢◌, ℕ, zero, suc, ◌+◌, ◌-◌, ◌<◌, ◌≤◌, ◌⊎◌, inl, inr, Bool, true, false, not, cond, filter, Option, Some, None, List, [], ◌∷◌, length, take, get_or, set, replicate, refl, sym, ap, subst, ◌∙◌, arith, count_by}
+use Rattle.std.proofs.Common.{◌≡◌, ◌≢◌, ℕ, zero, suc, ◌+◌, ◌<◌, ◌≤◌, ◌⊎◌, inl, inr, Bool, true, false, not, cond, filter, Option, Some, None, List, [], ◌∷◌, length, get_or, set, replicate, refl, sym, ap, subst, ◌∙◌, arith, count_by}
 use Rattle.std.proofs.lemmas.Bool.{cases_lt, cases_eq, ne_eqb, eq-eqb}
 use Rattle.std.proofs.lemmas.List.{get_or-replicate, get_or_past, get_or_read, length-set, length-replicate, take_all}
 use Rattle.std.proofs.lemmas.List.Sums.{count_by_more_yes, count_by_more_no}
 use Rattle.std.proofs.lemmas.List.Folds.{sum_by-replicate}
-use Rattle.tantivy_stacker.specs.Arena.{Arena, Lies, Keeps, bytes_at}
+use Rattle.tantivy_stacker.specs.Arena.{Arena, Lies, bytes_at}
 use Rattle.tantivy_stacker.specs.Hashing.{hash_of}
 use Rattle.tantivy_stacker.specs.Maps.{Table, place, is_taken, IsTaken, Leads, IsFiled, key_at, value_place, entry_size, IsHeldMap, HasEntry, MapStays, MapPuts, MapWrite, map_places, Finds, AreUnique, Rehashes, IsFiledAnew}
-use Rattle.tantivy_stacker.proofs.Inserting.{put_here, put_there, put_length, put_leads, put_filed_here, put_count, cases_put}
+use Rattle.tantivy_stacker.proofs.Inserting.{put_here, put_there, put_leads, put_filed_here, put_count, cases_put}
 use Rattle.std.proofs.lemmas.List.Elements.{All-nil, All-cons}
 use Rattle.std.proofs.lemmas.Bool.{false≢true}
-use Rattle.tantivy_stacker.specs.Lists.{IsApart, KeepsBut}
+use Rattle.tantivy_stacker.specs.Lists.{IsApart}
 use Rattle.tantivy_stacker.specs.Probes.{IsAbsent}
 use Rattle.tantivy_stacker.proofs.Maps.{areas, entry_apart, filter-cons_yes, filter-cons_no}
 use Rattle.tantivy_stacker.proofs.Tables.{taken-below}
@@ -172,7 +172,7 @@ module _ {V : Type 0} (size : ℕ) (item : List ℕ → V) (a : Arena) (t u : Ta
   absent_before key absent = λ i taken same. absent_at size item a t key absent (s.only key (item (bytes_at a (value_place a (place u.places i).0) size)) (record { at = i; taken = taken; key_is = same; value_is = refl }))
 
 -- the places of a map and of the one before the rehash are the same
-all_areas : (size : ℕ) (a : Arena) (q n : ℕ) (ps : List (ℕ × ℕ)) → ((i : ℕ) → IsTaken ps i → (q + n ≤ (place ps i).0) ⊎ ((place ps i).0 + entry_size size a (place ps i).0 ≤ q)) → IsApart q n (areas size a (filter is_taken ps))
+pub all_areas : (size : ℕ) (a : Arena) (q n : ℕ) (ps : List (ℕ × ℕ)) → ((i : ℕ) → IsTaken ps i → (q + n ≤ (place ps i).0) ⊎ ((place ps i).0 + entry_size size a (place ps i).0 ≤ q)) → IsApart q n (areas size a (filter is_taken ps))
 all_areas size a q n [] apart = All-nil _
 all_areas size a q n (p ∷ ps) apart =
     let rest = all_areas size a q n ps (λ i taken. apart (suc i) taken) in

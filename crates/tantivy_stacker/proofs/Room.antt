@@ -1,9 +1,9 @@
 -- How many bytes the blocks of a list take.
-use Rattle.std.proofs.Common.{◌≡◌, ℕ, zero, suc, ◌+◌, ◌-◌, ◌*◌, ◌<◌, ◌≤◌, ◌⊎◌, inl, inr, Bool, true, false, cond, eqb, List, [], ◌∷◌, ◌++◌, length, refl, sym, ap, subst, ◌∙◌, arith, length-append}
+use Rattle.std.proofs.Common.{◌≡◌, ℕ, zero, suc, ◌+◌, ◌-◌, ◌<◌, ◌≤◌, ◌⊎◌, inl, inr, cond, length, refl, ap, ◌∙◌, arith, length-append}
 use Rattle.std.proofs.lemmas.Bool.{cases_eq, ne_eqb}
 use Rattle.tantivy_stacker.specs.declared.expull.ExpUnrolledLinkedList.{ExpUnrolledLinkedList}
-use Rattle.tantivy_stacker.specs.Arena.{Arena, Lies, bytes_at}
-use Rattle.tantivy_stacker.specs.Lists.{block_size, next_block, IsChain, last_block, full_blocks, block_count, used, IsLaidOutBy, IsLaidOut, IsHeld, list_bytes, room_from, room, blocks_room}
+use Rattle.tantivy_stacker.specs.Arena.{Arena, bytes_at}
+use Rattle.tantivy_stacker.specs.Lists.{block_size, next_block, IsChain, last_block, full_blocks, block_count, used, IsLaidOut, list_bytes, room_from, room, blocks_room}
 use Rattle.tantivy_stacker.proofs.Chains.{block_size-some, last_block-lies, Lies-front, bytes_at-length}
 use Rattle.tantivy_stacker.proofs.Lists.{bytes-none, bytes-some, laid-some, none_count, some_count, cases_blocks}
 

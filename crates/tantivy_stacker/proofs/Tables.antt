@@ -1,11 +1,11 @@
 -- Searches in a table.
-use Rattle.std.proofs.Common.{◌≡◌, ◌≢◌, ℕ, zero, suc, ◌+◌, ◌-◌, ◌<◌, ◌≤◌, ◌⊎◌, inl, inr, Bool, true, false, cond, eqb, ltb, not, List, [], ◌∷◌, length, get_or, set, refl, sym, ap, subst, ◌∙◌, arith, bit_and, count_by}
+use Rattle.std.proofs.Common.{◌≡◌, ◌≢◌, ℕ, suc, ◌+◌, ◌-◌, ◌<◌, ◌≤◌, inl, inr, Bool, true, false, cond, eqb, not, List, [], ◌∷◌, length, get_or, sym, ap, ◌∙◌, arith, bit_and, count_by}
 use Rattle.std.proofs.lemmas.Nat.{and_le_r}
 use borrow.Author.Count.{below_more}
 use Rattle.std.proofs.lemmas.Bool.{cases_lt, cases_eq, ne_eqb, eq-eqb, eqb-true, eqb-false, lt-ltb, le-ltb}
 use Rattle.std.proofs.lemmas.List.{get_or_past, get_or_read}
 use Rattle.std.proofs.lemmas.List.Sums.{sum_by-cons}
-use Rattle.tantivy_stacker.specs.Maps.{place, is_taken, IsTaken, home, turn, Leads}
+use Rattle.tantivy_stacker.specs.Maps.{place, is_taken, IsTaken, home, turn}
 
 pub and_below : (h n : ℕ) → 1 ≤ n → bit_and h (n - 1) < n
 and_below h n some = omega (arith, and_le_r h (n - 1))

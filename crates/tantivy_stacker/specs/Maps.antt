@@ -1,5 +1,5 @@
 -- Hash maps in an arena: a table of places, each free or taken by an entry, and the entries in the arena.
-use Rattle.std.specs.Prelude.{◌≡◌, ◌≢◌, ℕ, ◌+◌, ◌-◌, ◌*◌, ◌^◌, ◌<◌, ◌≤◌, ◌==◌, ◌⊎◌, ⊤, Bool, not, nat_lt, List, [], ◌∷◌, ◌++◌, length, replicate, take, map, filter, count_by, slice_index_or, slice_set, bit_and, Option, Some, None, MatchOption, if◌then◌else◌}
+use Rattle.std.specs.Prelude.{◌≡◌, ◌≢◌, ℕ, ◌+◌, ◌-◌, ◌*◌, ◌^◌, ◌<◌, ◌≤◌, ◌==◌, ◌⊎◌, Bool, not, nat_lt, List, [], ◌∷◌, length, replicate, take, map, filter, count_by, slice_index_or, slice_set, bit_and, Option, MatchOption, if◌then◌else◌}
 use Rattle.std.specs.Int.{w16, from_le_bytes}
 use Rattle.tantivy_stacker.specs.Arena.{Arena, Lies, bytes_at, top, spent, IsFull, Keeps}
 use Rattle.tantivy_stacker.specs.Lists.{KeepsBut, IsApart}

@@ -3,7 +3,7 @@ use Rattle.std.specs.Prelude.{◌≡◌, ◌≢◌, ℕ, ◌+◌, ◌<◌, List,
 use Rattle.tantivy_stacker.specs.declared.shared_arena_hashmap.Probe.{Probe}
 use Rattle.tantivy_stacker.specs.declared.shared_arena_hashmap.Probe.TheVariants.{Taken, Free}
 use Rattle.tantivy_stacker.specs.Arena.{Arena, Lies}
-use Rattle.tantivy_stacker.specs.Maps.{Table, place, is_taken, IsTaken, Leads, IsFiled, key_length, key_at}
+use Rattle.tantivy_stacker.specs.Maps.{place, is_taken, IsTaken, Leads, IsFiled, key_length, key_at}
 use Rattle.tantivy_stacker.specs.Hashing.{hash_of}
 
 -- What a search needs of a table and its entries.

@@ -1,6 +1,8 @@
 // Laws of arenas and lists, for the proofs of callers.
 ghost use Rattle.tantivy_stacker.specs.Maps.{EmptyMapIsHeld, EmptyMapHasNone, EntriesAreOne, OtherMapsStay};
+ghost use Rattle.tantivy_stacker.specs.Tenants.{NoneAreTenants, EmptyJoins, WritesStayApart};
 ghost use Rattle.tantivy_stacker.specs.Lists.{EmptyIsHeld, OthersStay, PlacesLie, LiesBeforeTop, RoomIsBounded, RoomGrows};
+ghost use Rattle.tantivy_stacker.specs.Beside.{EmptyAreBeside, ListWritesBeside, MapWritesBeside};
 
 use crate::ArenaItem;
 
@@ -10,6 +12,13 @@ pub fn list_laws()
     ensures others { OthersStay }
     ensures places { PlacesLie }
     ensures top { LiesBeforeTop }
+{}
+
+/// What holds of lists that stand side by side in one arena. It does nothing.
+pub fn tenant_laws()
+    ensures none { NoneAreTenants }
+    ensures empty { EmptyJoins }
+    ensures writes { WritesStayApart }
 {}
 
 /// What holds of the room that a list takes. It does nothing.
@@ -24,4 +33,11 @@ pub fn map_laws<V: ArenaItem>()
     ensures none { EmptyMapHasNone V.SIZE V.item }
     ensures one { EntriesAreOne V.SIZE V.item }
     ensures others { OtherMapsStay V.SIZE V.item }
+{}
+
+/// What holds of a list and a map in one arena. It does nothing.
+pub fn beside_laws<V: ArenaItem>()
+    ensures empty { EmptyAreBeside V.SIZE }
+    ensures list { ListWritesBeside V.SIZE V.item }
+    ensures map { MapWritesBeside V.SIZE }
 {}

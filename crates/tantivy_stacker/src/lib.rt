@@ -23,7 +23,7 @@ pub use error::ArenaError;
 pub use expull::{ExpUnrolledLinkedList, ExpUnrolledLinkedListWriter};
 pub use fastcmp::{fast_nbyte_slice_compare, fast_short_slice_compare};
 pub use fastcpy::fast_short_slice_copy;
-pub use laws::{list_laws, map_laws, room_laws};
+pub use laws::{beside_laws, list_laws, map_laws, room_laws, tenant_laws};
 pub use map_iter::Iter;
 pub use memory_arena::MemoryArena;
 pub use shared_arena_hashmap::{SharedArenaHashMap, compute_table_memory_size};

@@ -1,5 +1,10 @@
 // Worked rows.
-use crate::{ArenaError, MemoryArena};
+ghost use Rattle.std.specs.Prelude.{OnOk};
+ghost use Rattle.tantivy_stacker.specs.Beside.{AreBeside};
+
+use crate::hash::get_hash;
+use crate::{ArenaError, ArenaHashMap, ExpUnrolledLinkedList, MemoryArena, SharedArenaHashMap};
+use std::alloc::{AllocError, Global};
 use std::test::Fail;
 
 #[test]
@@ -9,5 +14,144 @@ fn one_page_is_full_after_its_last_byte(rt: HostRuntime) -> Result<(), Fail> {
     assert!(rt; arena.allocate_space(1).is_ok());
     assert!(rt; matches!(arena.allocate_space(1), Err(ArenaError::ArenaFull)));
     assert_eq!(rt; arena.len(), 1048576);
+    Ok(())
+}
+
+#[test]
+fn a_whole_page_and_one_more_byte(rt: HostRuntime) -> Result<(), Fail> {
+    let mut arena = MemoryArena::with_page_limit(rt.alloc(), 2)?;
+    assert!(rt; arena.allocate_space(1048576).is_ok());
+    assert!(rt; arena.allocate_space(1048576).is_ok());
+    assert!(rt; matches!(arena.allocate_space(1), Err(ArenaError::ArenaFull)));
+    assert_eq!(rt; arena.mem_usage(), 2097152);
+    Ok(())
+}
+
+#[test]
+fn parts_of_a_list(rt: HostRuntime) -> Result<(), Fail> {
+    let mut arena = MemoryArena::new(rt.alloc())?;
+    let mut list = ExpUnrolledLinkedList::default();
+    list.append(&mut arena, &[1])?;
+    list.append(&mut arena, &[2])?;
+    list.append(&mut arena, &[3, 4])?;
+    list.append(&mut arena, &[5])?;
+    let mut bytes = Vec::new(rt.alloc());
+    list.read_to_end(&arena, &mut bytes)?;
+    assert_eq!(rt; bytes.as_slice(), [1, 2, 3, 4, 5].as_slice());
+    Ok(())
+}
+
+#[test]
+fn a_key_that_begins_another(rt: HostRuntime) -> Result<(), Fail> {
+    let mut map: ArenaHashMap<u32> = ArenaHashMap::new(rt.alloc())?;
+    map.mutate_or_create(b"abc", |_| 3)?;
+    map.mutate_or_create(b"abcd", |_| 4)?;
+    map.mutate_or_create(b"abc", |before| before.unwrap_or(0).saturating_add(2))?;
+    assert_eq!(rt; map.len(), 2);
+    assert_eq!(rt; map.get(b"abc"), Some(5));
+    assert_eq!(rt; map.get(b"abcd"), Some(4));
+    assert_eq!(rt; map.get(b"ab"), None);
+    Ok(())
+}
+
+// Of longer keys the first 65,535 bytes count.
+#[test]
+fn keys_of_all_lengths(rt: HostRuntime) -> Result<(), Fail> {
+    let long = vec![in rt.alloc(); 7u8; 70_000]?;
+    let cut = &long[..65_535];
+    let mut map: ArenaHashMap<u32> = ArenaHashMap::new(rt.alloc())?;
+    map.mutate_or_create(b"", |_| 1)?;
+    map.mutate_or_create(cut, |_| 2)?;
+    map.mutate_or_create(&long, |before| before.unwrap_or(0).saturating_add(1))?;
+    assert_eq!(rt; map.len(), 2);
+    assert_eq!(rt; map.get(b""), Some(1));
+    assert_eq!(rt; map.get(cut), Some(3));
+    assert_eq!(rt; map.get(&long), None);
+    Ok(())
+}
+
+#[test]
+fn two_keys_of_one_hash(rt: HostRuntime) -> Result<(), Fail> {
+    assert_eq!(rt; get_hash(b"k127804"), get_hash(b"k152289"));
+    let mut map: ArenaHashMap<u32> = ArenaHashMap::new(rt.alloc())?;
+    map.mutate_or_create(b"k127804", |_| 1)?;
+    map.mutate_or_create(b"k152289", |_| 2)?;
+    assert_eq!(rt; map.get(b"k127804"), Some(1));
+    assert_eq!(rt; map.get(b"k152289"), Some(2));
+    Ok(())
+}
+
+fn add_bytes(
+    arena: &mut MemoryArena,
+    list: &mut ExpUnrolledLinkedList,
+    map: &SharedArenaHashMap<u32>,
+    bytes: &[u8],
+) -> Result<(), ArenaError>
+    requires { AreBeside 4 arena.old list.old map.now }
+    ensures { OnOk result (AreBeside 4 arena.new list.new map.now) }
+{
+    list.append(arena, bytes)
+}
+
+fn add_entry(
+    arena: &mut MemoryArena,
+    list: &ExpUnrolledLinkedList,
+    map: &mut SharedArenaHashMap<u32>,
+    number: u32,
+) -> Result<(), ArenaError>
+    requires { AreBeside 4 arena.old list.now map.old }
+    ensures { OnOk result (AreBeside 4 arena.new list.now map.new) }
+{
+    map.mutate_or_create(&number.to_le_bytes(), arena, |_| number)?;
+    Ok(())
+}
+
+fn add_both(
+    arena: &mut MemoryArena,
+    list: &mut ExpUnrolledLinkedList,
+    map: &mut SharedArenaHashMap<u32>,
+    number: u8,
+) -> Result<(), ArenaError>
+    requires { AreBeside 4 arena.old list.old map.old }
+    ensures { OnOk result (AreBeside 4 arena.new list.new map.new) }
+{
+    add_bytes(arena, list, map, &[number; 100])?;
+    add_entry(arena, list, map, u32::from(number))
+}
+
+// The bytes of the list, and how many of the numbers below 40 the map has.
+fn counted(
+    alloc: Global,
+    arena: &MemoryArena,
+    list: &ExpUnrolledLinkedList,
+    map: &SharedArenaHashMap<u32>,
+) -> Result<(Vec<u8>, usize), AllocError>
+    requires { AreBeside 4 arena.now list.now map.now }
+{
+    let mut bytes = Vec::new(alloc);
+    list.read_to_end(arena, &mut bytes)?;
+    let found = (0..40u32)
+        .filter(|number| map.get(&number.to_le_bytes(), arena) == Some(*number))
+        .count();
+    Ok((bytes, found))
+}
+
+// The list takes nine blocks, and the map doubles five times.
+#[test]
+fn a_list_and_a_map_grow_in_one_arena(rt: HostRuntime) -> Result<(), Fail> {
+    let mut arena = MemoryArena::new(rt.alloc())?;
+    let mut list = ExpUnrolledLinkedList::default();
+    let mut map: SharedArenaHashMap<u32> = SharedArenaHashMap::with_capacity(rt.alloc(), 4)?;
+    for number in 0..40u8 {
+        add_both(&mut arena, &mut list, &mut map, number)?;
+    }
+    let (bytes, found) = counted(rt.alloc(), &arena, &list, &map)?;
+    assert_eq!(rt; found, 40);
+    assert_eq!(rt; bytes.len(), 4000);
+    for number in 0..40u8 {
+        let first = usize::from(number) * 100;
+        assert_eq!(rt; bytes.get(first), Some(&number));
+        assert_eq!(rt; bytes.get(first + 99), Some(&number));
+    }
     Ok(())
 }

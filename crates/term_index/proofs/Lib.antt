@@ -1,4 +1,9 @@
 pub mod Values
 pub mod Forms
 pub mod Prefixes
-pub mod Answered
+pub mod OneCommand
+pub mod Found
+pub mod Valid
+pub mod OtherVersion
+pub mod Endings
+pub mod Headlines

@@ -1,6 +1,9 @@
-pub mod Asking
 pub mod Commands
 pub mod Shown
-pub mod Lines
 pub mod Outcomes
 pub mod Reading
+pub mod Refusals
+pub mod Printing
+pub mod Running
+pub mod Ending
+pub mod Headline

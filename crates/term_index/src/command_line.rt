@@ -12,7 +12,7 @@ use itoa::Buffer;
 pub enum Command<'a> {
     Build {
         path: &'a str,
-        pages: u64,
+        pages: u32,
     },
     Search {
         path: &'a str,
@@ -101,7 +101,10 @@ fn build_of(rest: &[Word]) -> Option<Command<'_>>
     if pages > 4096 {
         return None;
     }
-    Some(Command::Build { path, pages })
+    Some(Command::Build {
+        path,
+        pages: pages as u32,
+    })
 }
 
 fn search_of(rest: &[Word]) -> Option<Command<'_>>

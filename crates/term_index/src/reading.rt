@@ -6,7 +6,7 @@ ghost use Rattle.term_index.specs.Reading.{both, gathered, entries, pair_of_text
 use owned_bytes::Text;
 use serde_json::{Map, Value};
 use std::alloc::{AllocError, Global};
-use term_search::{Doc, Pair, Pairs};
+use term_documents::{Doc, Pair, Pairs};
 use thiserror::Error;
 
 /// Why there are no documents.

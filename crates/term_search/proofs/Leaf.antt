@@ -61,11 +61,11 @@ postings_documents told index file postings h =
     let third = bind_some (provided (list_all (is_posting index.documents) (map (with_numbers (numbers_in (header_of index file))) first.0))) _ postings second.2 in
     ap (λ (p : Postings). p.documents) (sym (some_is _ postings third.2))
 
-told_documents : (contents : Option (List ℕ)) (index : OpenIndex) (postings : Postings) → postings_told index contents ≡ Some postings → postings.documents ≡ index.documents
+pub told_documents : (contents : Option (List ℕ)) (index : OpenIndex) (postings : Postings) → postings_told index contents ≡ Some postings → postings.documents ≡ index.documents
 told_documents None index postings h = cc
 told_documents (Some file) index postings h = postings_documents None index file postings h
 
-gathered_documents : (docs : List Doc) → (gather docs).documents ≡ length docs
+pub gathered_documents : (docs : List Doc) → (gather docs).documents ≡ length docs
 unfolding gather
 gathered_documents docs = refl
 

@@ -4,4 +4,6 @@
 #[cfg(test)]
 mod adapters;
 #[cfg(test)]
+mod dates;
+#[cfg(test)]
 mod wire;

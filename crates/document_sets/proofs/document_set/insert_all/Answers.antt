@@ -14,9 +14,9 @@ loop-number-preserved c =
     let i = c.loop-number.number-index in
     record {
       elements =
-        c.insert.ensures.elements
-        ∙ ap (λ s. insert s (slice_index numbers i)) c.loop-number.invariant.elements
-        ∙ sym (with-more c.args.bits.now.elements (take i numbers) (slice_index numbers i))
-        ∙ ap (λ xs. with_numbers c.args.bits.now.elements xs) (sym (take_more numbers i 0 c.loop-number-test.true));
+          c.insert.ensures.elements
+          ∙ ap (λ s. insert s (slice_index numbers i)) c.loop-number.invariant.elements
+          ∙ sym (with-more c.args.bits.now.elements (take i numbers) (slice_index numbers i))
+          ∙ ap (λ xs. with_numbers c.args.bits.now.elements xs) (sym (take_more numbers i 0 c.loop-number-test.true));
       max_value = c.insert.ensures.max_value ∙ c.loop-number.invariant.max_value;
     }

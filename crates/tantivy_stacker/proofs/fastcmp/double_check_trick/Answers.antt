@@ -1,4 +1,4 @@
-use Rattle.std.proofs.Common.{◌≡◌, length, take, drop, ap, sym, ◌∙◌, ◌-◌}
+use Rattle.std.proofs.Common.{length, take, drop, ap, ◌-◌}
 use Rattle.tantivy_stacker.proofs.Halves.{same_ends}
 use Rattle.tantivy_stacker.proofs.fastcmp.double_check_trick.Goals as goal
 

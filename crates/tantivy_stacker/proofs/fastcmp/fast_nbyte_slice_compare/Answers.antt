@@ -1,4 +1,4 @@
-use Rattle.std.proofs.Common.{◌≡◌, ◌≤◌, ◌+◌, length, take, drop, ap, sym, ◌∙◌, ◌-◌, arith}
+use Rattle.std.proofs.Common.{◌≡◌, ◌+◌, length, take, drop, ap, ◌-◌, arith}
 use Rattle.tantivy_stacker.proofs.Halves.{same_end, front_more}
 use Rattle.tantivy_stacker.proofs.fastcmp.fast_nbyte_slice_compare.Goals as goal
 

@@ -1,4 +1,4 @@
-use Rattle.std.proofs.Common.{◌≡◌, ◌<◌, ◌≤◌, arith, ap, ◌∙◌}
+use Rattle.std.proofs.Common.{arith, ap, ◌∙◌}
 use Rattle.tantivy_stacker.specs.Hashing.{mixed}
 use Rattle.tantivy_stacker.proofs.Hashes.{hash_more}
 use Rattle.tantivy_stacker.proofs.hash.get_hash.Goals as goal

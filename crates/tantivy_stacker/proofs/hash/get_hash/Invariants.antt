@@ -1,4 +1,4 @@
-use Rattle.std.proofs.Common.{◌≡◌, ◌-◌, ◌+◌, ◌*◌, ◌/◌, ◌≤◌, length}
+use Rattle.std.proofs.Common.{◌≡◌, ◌-◌, ◌+◌, ◌*◌, ◌/◌, length}
 use Rattle.tantivy_stacker.specs.Hashing.{hash_words}
 use Rattle.tantivy_stacker.proofs.hash.get_hash.Given as goal
 

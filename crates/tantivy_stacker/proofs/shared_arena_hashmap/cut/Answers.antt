@@ -1,4 +1,4 @@
-use Rattle.std.proofs.Common.{◌≡◌, ◌<◌, ◌≤◌, length, take, sym, arith, ◌∙◌, rules}
+use Rattle.std.proofs.Common.{sym, arith, rules}
 use Rattle.std.proofs.lemmas.List.{take_all, length-take-le}
 use Rattle.tantivy_stacker.specs.Maps.{cut_key}
 use Rattle.tantivy_stacker.proofs.shared_arena_hashmap.cut.Goals as goal

@@ -1,5 +1,5 @@
-use Rattle.std.proofs.Common.{◌≡◌, ◌+◌, subst, sym, ap, ◌∙◌, arith}
-use Rattle.tantivy_stacker.specs.Arena.{Lies, bytes_at}
+use Rattle.std.proofs.Common.{◌≡◌, ◌+◌, ap, ◌∙◌, arith}
+use Rattle.tantivy_stacker.specs.Arena.{bytes_at}
 use Rattle.tantivy_stacker.specs.Maps.{key_length, key_at}
 use Rattle.tantivy_stacker.proofs.Entries.{key_lies, key_place}
 use Rattle.tantivy_stacker.proofs.shared_arena_hashmap.entry_key.Goals as goal

@@ -1,4 +1,4 @@
-use Rattle.std.proofs.Common.{◌≡◌, ◌∙◌}
+use Rattle.std.proofs.Common.{◌∙◌}
 use Rattle.tantivy_stacker.proofs.Rehashing.{rehash_step}
 use Rattle.tantivy_stacker.proofs.shared_arena_hashmap.fill_from.Goals as goal
 

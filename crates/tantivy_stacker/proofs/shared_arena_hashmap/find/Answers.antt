@@ -1,7 +1,7 @@
-use Rattle.std.proofs.Common.{ℕ, ◌≡◌, ◌≢◌, ◌<◌, ◌≤◌, length, sym, ap, ◌∙◌, subst, arith}
+use Rattle.std.proofs.Common.{ℕ, ◌≡◌, ◌≢◌, sym, ap, ◌∙◌}
 use Rattle.std.proofs.lemmas.Bool.{false≢true}
 use Rattle.std.proofs.lemmas.List.{get_or_read}
-use Rattle.tantivy_stacker.specs.Maps.{place, IsTaken, key_at}
+use Rattle.tantivy_stacker.specs.Maps.{place, key_at}
 use Rattle.tantivy_stacker.proofs.Tables.{read_taken, read_free}
 use Rattle.tantivy_stacker.proofs.Entries.{ends_free, searching_begin, searching_more, search_ends}
 use Rattle.tantivy_stacker.proofs.shared_arena_hashmap.find.Goals as goal

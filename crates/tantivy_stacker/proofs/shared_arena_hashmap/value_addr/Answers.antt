@@ -1,4 +1,4 @@
-use Rattle.std.proofs.Common.{◌≡◌, ◌+◌, ◌∙◌, arith}
+use Rattle.std.proofs.Common.{◌≡◌, ◌∙◌, arith}
 use Rattle.tantivy_stacker.specs.Maps.{key_length}
 use Rattle.tantivy_stacker.proofs.Entries.{value_place_is}
 use Rattle.tantivy_stacker.proofs.shared_arena_hashmap.value_addr.Goals as goal

@@ -1,7 +1,7 @@
-use Rattle.std.proofs.Common.{◌≡◌, ◌+◌, ◌≤◌, length, sym, ap, ◌∙◌, subst, arith}
+use Rattle.std.proofs.Common.{◌≡◌, ◌+◌, length, ap, ◌∙◌, subst, arith}
 use Rattle.std.specs.Int.{w16, from_le_bytes}
 use Rattle.std.proofs.lemmas.Nat.{from_le_bytes-to_le_bytes_2}
-use Rattle.tantivy_stacker.specs.Arena.{Arena, Lies, Writes}
+use Rattle.tantivy_stacker.specs.Arena.{Lies, Writes}
 use Rattle.tantivy_stacker.proofs.Chains.{Lies-front, Lies-back}
 use Rattle.tantivy_stacker.proofs.Entries.{place_after}
 use Rattle.tantivy_stacker.proofs.Inserting.{entry_written}

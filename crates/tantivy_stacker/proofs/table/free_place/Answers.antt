@@ -1,7 +1,5 @@
-use Rattle.std.proofs.Common.{◌≡◌, ℕ, ◌<◌, ◌≤◌, length, arith, rules, sym, ap, ◌∙◌, subst}
-use Rattle.tantivy_stacker.specs.Maps.{place, IsTaken, home, turn}
-use Rattle.std.proofs.lemmas.Bool.{eqb-false}
-use Rattle.std.proofs.lemmas.List.{get_or_read}
+use Rattle.std.proofs.Common.{◌<◌, length, arith, sym, ◌∙◌, subst}
+use Rattle.tantivy_stacker.specs.Maps.{IsTaken, home}
 use Rattle.tantivy_stacker.proofs.Tables.{turn-first, search_more, all_taken, read_taken}
 use Rattle.tantivy_stacker.proofs.table.free_place.Goals as goal
 

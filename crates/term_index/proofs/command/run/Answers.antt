@@ -1,64 +1,189 @@
--- The words ask the query that was read, so what the question says of it is what the clauses say.
-use Rattle.std.proofs.Common.{◌≡◌, ◌⊎◌, inl, inr, ℕ, List, [], ◌∷◌, Option, sym, ◌∙◌, subst, IfSome}
-use Rattle.std.specs.Prelude.{codes}
-use Rattle.std.specs.Io.KnownBytes.{Keeps}
-use Rattle.owned_bytes.specs.Outside.{AppendsPrefix}
-use Rattle.term_documents.specs.declared.documents.Doc.{Doc}
-use Rattle.term_documents.specs.declared.expr.Expr.{Expr}
-use Rattle.term_search.specs.Printed.{IsPrinted}
+-- The words are the command that was read, so what it does is what the clauses say.
+use Rattle.std.proofs.Common.{◌≡◌, ◌≤◌, ◌<◌, ℕ, List, Bool, true, false, ◌∷◌, [], Option, Some, None, refl, sym, ap, ◌∙◌, subst, IfSome}
 use Rattle.term_index.specs.declared.outcome.Outcome.{Outcome}
-use Rattle.term_index.specs.Commands.{IsCommand, ask}
+use Rattle.term_index.specs.declared.outcome.Outcome.TheVariants.{Done, Version, ReadFault, Memory}
+use Rattle.term_index.specs.Commands.{Command, build, search, ask, tree, generate, IsCommand, OfSearch, reads_documents, reads_file, writes_store, prints}
 use Rattle.term_index.specs.Shown.{shown}
-use Rattle.term_index.specs.Asking.{Asks, IsSearchable, answer, Says}
-use Rattle.term_index.proofs.Answered.{says_done, says_not_yet, says_out_fault, says_memory, says_query, says_complete, Stopped}
+use Rattle.term_index.specs.Running.{Told, Does, Builds, Searches, Asks, PrintsTree}
+use Rattle.tantivy_sstable.specs.Opening.{version_of, is_known}
+use Rattle.term_documents.specs.declared.documents.Doc.{Doc}
+use Rattle.term_search.specs.Searching.{CanBeSearched}
+use Rattle.term_index.specs.Refusals.{Spell, AreKept}
+use Rattle.term_index.specs.Running.{ask_pages}
+use Rattle.term_index.specs.Ending.{IsAmong, BuildEnds, AskEnds, build_end, ask_end, query_end}
+use Rattle.term_index.proofs.OneCommand.{one_command, within_limits, of_search}
+use Rattle.term_index.proofs.Headlines.{builds_index, finds_satisfying, finds_meaning, asks_satisfying, asks_meaning, unwritten, unprinted, not_usage}
+use Rattle.term_index.proofs.Endings.{builds_end, builds_done, asks_end, asks_done, prints_end, searches_end, other_version}
 use Rattle.term_index.proofs.command.run.Goals as goal
 
--- the query that the words ask is the one that was read
-same_query : (words : List (List ℕ)) (field query other given : List ℕ) → IsCommand words (ask field query) → IsCommand words (ask other given) → query ≡ given
-same_query words field query other given one two = let both : codes "ask" ∷ field ∷ query ∷ [] ≡ codes "ask" ∷ other ∷ given ∷ [] = sym one ∙ two in cc
+-- a command does what the one that was read does
+done : (words : List (List ℕ)) (read : Command) (outcome : Outcome) (old new : Told) → IsCommand words read → Does read outcome old new → (command : Command) → IsCommand words command → Does command outcome old new
+done words read outcome old new is does command other = subst (λ (c : Command). Does c outcome old new) (one_command words read command is other) does
 
-pub returns-clause-done : goal.returns-clause-done
-returns-clause-done g c = λ same e asks.
-    let read = subst (λ k. IsCommand c.args.words.now (shown k)) c.in-Ask.is c.in-Some.ensures in
-    let query : asks.1 ≡ c.in-Ask.query.now = same_query c.args.words.now asks.0 asks.1 c.in-Ask.field.now c.in-Ask.query.now asks.2 read in
-    let says = subst (λ (o : Outcome). Says o c.in-Ask.query.now (g.S.Source.left c.args.docs.now) (g.O.Sink.written c.args.out.now) (g.O.Sink.written c.ask.new.out)) same c.ask.ensures.says in
-    says_done c.in-Ask.query.now _ _ _ says e (subst (λ q. IsPrinted q e) query asks.3)
+builds_told : (pages : ℕ) (outcome : Outcome) (left old new : Option (List ℕ)) → Builds pages outcome left old new → IfSome left (λ bytes. BuildEnds (build_end pages bytes) outcome)
+builds_told pages outcome None old new says = tt
+builds_told pages outcome (Some bytes) old new says = builds_end pages bytes old new outcome says
 
-pub returns-clause-not_yet : goal.returns-clause-not_yet
-returns-clause-not_yet g c = λ same e asks.
-    let read = subst (λ k. IsCommand c.args.words.now (shown k)) c.in-Ask.is c.in-Some.ensures in
-    let query : asks.1 ≡ c.in-Ask.query.now = same_query c.args.words.now asks.0 asks.1 c.in-Ask.field.now c.in-Ask.query.now asks.2 read in
-    let says = subst (λ (o : Outcome). Says o c.in-Ask.query.now (g.S.Source.left c.args.docs.now) (g.O.Sink.written c.args.out.now) (g.O.Sink.written c.ask.new.out)) same c.ask.ensures.says in
-    says_not_yet c.in-Ask.query.now (g.S.Source.left c.args.docs.now) (g.O.Sink.written c.args.out.now) (g.O.Sink.written c.ask.new.out) says e (subst (λ q. IsPrinted q e) query asks.3)
+builds_done_told : (pages : ℕ) (outcome : Outcome) (left old new : Option (List ℕ)) → Builds pages outcome left old new → IfSome left (λ bytes. (docs : List Doc) → Spell bytes docs → AreKept pages docs → BuildEnds Done outcome)
+builds_done_told pages outcome None old new says = tt
+builds_done_told pages outcome (Some bytes) old new says = builds_done pages bytes old new outcome says
 
-pub returns-clause-query_passed : goal.returns-clause-query_passed
-returns-clause-query_passed g c = λ late.
-    let read = subst (λ k. IsCommand c.args.words.now (shown k)) c.in-Ask.is c.in-Some.ensures in
-    let found = says_query c.in-Ask.query.now (g.S.Source.left c.args.docs.now) (g.O.Sink.written c.args.out.now) (g.O.Sink.written c.ask.new.out) c.args.alloc c.ask.result c.ask.ensures.says late in
-    (found.0, (c.in-Ask.field.now, c.in-Ask.query.now, read, found.1))
+asks_told : (field query : List ℕ) (outcome : Outcome) (left old new : Option (List ℕ)) → Asks field query outcome left old new → IfSome left (λ bytes. AskEnds (ask_end query bytes) outcome)
+asks_told field query outcome None old new says = tt
+asks_told field query outcome (Some bytes) old new says = asks_end field query bytes old new outcome says
 
-stopped : (words : List (List ℕ)) (field query : List ℕ) (left old new : Option (List ℕ)) → IsCommand words (ask field query) → Stopped query left old new
-    → Keeps old new ⊎ ((e : Expr) × (found : List Doc) × Asks words e × IfSome left (λ bytes. IsSearchable bytes found) × AppendsPrefix old new (answer found e))
-stopped words field query left old new is (inl kept) = inl kept
-stopped words field query left old new is (inr found) = inr (found.0, found.1, (field, query, is, found.2), found.3, found.4)
+asks_done_told : (field query : List ℕ) (outcome : Outcome) (left old new : Option (List ℕ)) → Asks field query outcome left old new → IfSome left (λ bytes. (docs : List Doc) → Spell bytes docs → AreKept ask_pages docs → AskEnds (query_end query) outcome)
+asks_done_told field query outcome None old new says = tt
+asks_done_told field query outcome (Some bytes) old new says = asks_done field query bytes old new outcome says
 
-pub returns-clause-prefix : goal.returns-clause-prefix
-returns-clause-prefix g c = λ why.
-    let read = subst (λ k. IsCommand c.args.words.now (shown k)) c.in-Ask.is c.in-Some.ensures in
-    let left = g.S.Source.left c.args.docs.now in
-    let old = g.O.Sink.written c.args.out.now in
-    let new = g.O.Sink.written c.ask.new.out in
-    let query = c.in-Ask.query.now in
-    stopped c.args.words.now c.in-Ask.field.now query left old new read (elim why [
-      | inl fault ↦ says_out_fault query left old new c.args.alloc (subst (λ (o : Outcome). Says o query left old new) fault c.ask.ensures.says)
-      | inr memory ↦ says_memory query left old new c.args.alloc (subst (λ (o : Outcome). Says o query left old new) memory c.ask.ensures.says)
-    ])
+other_version_told : (query field : List ℕ) (outcome : Outcome) (file old new : Option (List ℕ)) → Searches field query outcome file old new → CanBeSearched query → IfSome file (λ bytes. (version : ℕ) → version_of bytes ≡ Some version → is_known version ≡ false → IsAmong (Version version ∷ ReadFault ∷ Memory ∷ []) outcome)
+other_version_told query field outcome None old new says searched = tt
+other_version_told query field outcome (Some bytes) old new says searched = λ version is unknown. other_version query field bytes old new searched version is unknown outcome says
 
-pub returns-clause-complete : goal.returns-clause-complete
-returns-clause-complete g c = λ e asks tells.
-    let read = subst (λ k. IsCommand c.args.words.now (shown k)) c.in-Ask.is c.in-Some.ensures in
-    let query : asks.1 ≡ c.in-Ask.query.now = same_query c.args.words.now asks.0 asks.1 c.in-Ask.field.now c.in-Ask.query.now asks.2 read in
-    says_complete c.in-Ask.query.now (g.S.Source.left c.args.docs.now) (g.O.Sink.written c.args.out.now) (g.O.Sink.written c.ask.new.out) c.ask.result c.ask.ensures.says e (subst (λ q. IsPrinted q e) query asks.3) tells
+same_test : (test : Command → Bool) (words : List (List ℕ)) (read command : Command) (b : Bool) → IsCommand words read → IsCommand words command → test command ≡ b → test read ≡ b
+same_test test words read command b is other holds = ap test (one_command words read command is other) ∙ holds
 
-pub returns-in_default-clause-complete : goal.returns-in_default-clause-complete
-returns-in_default-clause-complete g c = λ e asks tells. c.in_default.ensures (ask asks.0 asks.1) asks.2
+pub obey-requires : goal.obey-requires
+obey-requires g c = within_limits c.args.words.now (shown c.in-Some.command) c.in-Some.ensures
+
+pub returns-clause-does : goal.returns-clause-does
+returns-clause-does g c = λ command is. done c.args.words.now (shown c.in-Some.command) c.obey.result _ _ c.in-Some.ensures c.obey.ensures.does command is
+
+pub returns-clause-build_ends : goal.returns-clause-build_ends
+returns-clause-build_ends g c = λ path pages is.
+    let says = done c.args.words.now (shown c.in-Some.command) c.obey.result _ _ c.in-Some.ensures c.obey.ensures.does (build path pages) is in
+    builds_told pages c.obey.result _ _ _ says.0
+
+pub returns-clause-build_done : goal.returns-clause-build_done
+returns-clause-build_done g c = λ path pages is.
+    let says = done c.args.words.now (shown c.in-Some.command) c.obey.result _ _ c.in-Some.ensures c.obey.ensures.does (build path pages) is in
+    builds_done_told pages c.obey.result _ _ _ says.0
+
+pub returns-clause-ask_ends : goal.returns-clause-ask_ends
+returns-clause-ask_ends g c = λ field query is.
+    let says = done c.args.words.now (shown c.in-Some.command) c.obey.result _ _ c.in-Some.ensures c.obey.ensures.does (ask field query) is in
+    asks_told field query c.obey.result _ _ _ says.0
+
+pub returns-clause-ask_done : goal.returns-clause-ask_done
+returns-clause-ask_done g c = λ field query is.
+    let says = done c.args.words.now (shown c.in-Some.command) c.obey.result _ _ c.in-Some.ensures c.obey.ensures.does (ask field query) is in
+    asks_done_told field query c.obey.result _ _ _ says.0
+
+pub returns-clause-tree_ends : goal.returns-clause-tree_ends
+returns-clause-tree_ends g c = λ query is.
+    let says = done c.args.words.now (shown c.in-Some.command) c.obey.result _ _ c.in-Some.ensures c.obey.ensures.does (tree query) is in
+    prints_end query c.obey.result _ _ says.0
+
+pub returns-clause-search_ends : goal.returns-clause-search_ends
+returns-clause-search_ends g c = λ path field query is.
+    let says = done c.args.words.now (shown c.in-Some.command) c.obey.result _ _ c.in-Some.ensures c.obey.ensures.does (search path field query) is in
+    searches_end query c.obey.result field _ _ _ says.0
+
+pub returns-clause-search_version : goal.returns-clause-search_version
+returns-clause-search_version g c = λ path field query is searched.
+    let says = done c.args.words.now (shown c.in-Some.command) c.obey.result _ _ c.in-Some.ensures c.obey.ensures.does (search path field query) is in
+    other_version_told query field c.obey.result _ _ _ says.0 searched
+
+pub returns-clause-built : goal.returns-clause-built
+returns-clause-built g c = λ same path pages is.
+    let says = done c.args.words.now (shown c.in-Some.command) c.obey.result _ _ c.in-Some.ensures c.obey.ensures.does (build path pages) is in
+    builds_index pages _ _ _ (subst (λ (o : Outcome). Builds pages o (g.S.Source.left c.args.docs.now) (g.W.Sink.written c.args.store.now) (g.W.Sink.written c.obey.new.store)) same says.0)
+
+pub returns-clause-searched : goal.returns-clause-searched
+returns-clause-searched g c = λ same path field query is.
+    let says = done c.args.words.now (shown c.in-Some.command) c.obey.result _ _ c.in-Some.ensures c.obey.ensures.does (search path field query) is in
+    finds_satisfying field query _ _ _ (subst (λ (o : Outcome). Searches field query o (g.H.FileHandle.contents c.args.file.now) (g.O.Sink.written c.args.out.now) (g.O.Sink.written c.obey.new.out)) same says.0)
+
+pub returns-clause-searched_printed : goal.returns-clause-searched_printed
+returns-clause-searched_printed g c = λ same path field query is.
+    let says = done c.args.words.now (shown c.in-Some.command) c.obey.result _ _ c.in-Some.ensures c.obey.ensures.does (search path field query) is in
+    finds_meaning field query _ _ _ (subst (λ (o : Outcome). Searches field query o (g.H.FileHandle.contents c.args.file.now) (g.O.Sink.written c.args.out.now) (g.O.Sink.written c.obey.new.out)) same says.0)
+
+pub returns-clause-asked : goal.returns-clause-asked
+returns-clause-asked g c = λ same field query is.
+    let says = done c.args.words.now (shown c.in-Some.command) c.obey.result _ _ c.in-Some.ensures c.obey.ensures.does (ask field query) is in
+    asks_satisfying field query _ _ _ (subst (λ (o : Outcome). Asks field query o (g.S.Source.left c.args.docs.now) (g.O.Sink.written c.args.out.now) (g.O.Sink.written c.obey.new.out)) same says.0)
+
+pub returns-clause-asked_printed : goal.returns-clause-asked_printed
+returns-clause-asked_printed g c = λ same field query is.
+    let says = done c.args.words.now (shown c.in-Some.command) c.obey.result _ _ c.in-Some.ensures c.obey.ensures.does (ask field query) is in
+    asks_meaning field query _ _ _ (subst (λ (o : Outcome). Asks field query o (g.S.Source.left c.args.docs.now) (g.O.Sink.written c.args.out.now) (g.O.Sink.written c.obey.new.out)) same says.0)
+
+pub returns-clause-printed : goal.returns-clause-printed
+returns-clause-printed g c = λ same query is.
+    let says = done c.args.words.now (shown c.in-Some.command) c.obey.result _ _ c.in-Some.ensures c.obey.ensures.does (tree query) is in
+    subst (λ (o : Outcome). PrintsTree query o (g.O.Sink.written c.args.out.now) (g.O.Sink.written c.obey.new.out)) same says.0
+
+pub returns-clause-unwritten : goal.returns-clause-unwritten
+returns-clause-unwritten g c = unwritten (shown c.in-Some.command) c.obey.result _ _ c.obey.ensures.does
+
+pub returns-clause-unprinted : goal.returns-clause-unprinted
+returns-clause-unprinted g c = unprinted (shown c.in-Some.command) c.obey.result _ _ c.obey.ensures.does
+
+pub returns-clause-usage : goal.returns-clause-usage
+returns-clause-usage g c = (
+  λ same. absurd (not_usage (shown c.in-Some.command) c.obey.result _ _ c.obey.ensures.does same),
+  λ none. absurd (none (shown c.in-Some.command) c.in-Some.ensures),
+)
+
+pub returns-clause-all_stay : goal.returns-clause-all_stay
+returns-clause-all_stay g c = λ same. absurd (not_usage (shown c.in-Some.command) c.obey.result _ _ c.obey.ensures.does same)
+
+pub returns-clause-read_whole : goal.returns-clause-read_whole
+returns-clause-read_whole g c = λ same command is reads. c.obey.ensures.read_whole same (same_test reads_documents c.args.words.now (shown c.in-Some.command) command true c.in-Some.ensures is reads)
+
+pub returns-clause-docs_stay : goal.returns-clause-docs_stay
+returns-clause-docs_stay g c = λ command is none. c.obey.ensures.docs_stay (same_test reads_documents c.args.words.now (shown c.in-Some.command) command false c.in-Some.ensures is none)
+
+pub returns-clause-file_stays : goal.returns-clause-file_stays
+returns-clause-file_stays g c = λ command is none. c.obey.ensures.file_stays (same_test reads_file c.args.words.now (shown c.in-Some.command) command false c.in-Some.ensures is none)
+
+pub returns-clause-store_stays : goal.returns-clause-store_stays
+returns-clause-store_stays g c = λ command is none. c.obey.ensures.store_stays (same_test writes_store c.args.words.now (shown c.in-Some.command) command false c.in-Some.ensures is none)
+
+pub returns-clause-out_stays : goal.returns-clause-out_stays
+returns-clause-out_stays g c = λ command is none. c.obey.ensures.out_stays (same_test prints c.args.words.now (shown c.in-Some.command) command false c.in-Some.ensures is none)
+
+pub returns-clause-search_done : goal.returns-clause-search_done
+returns-clause-search_done g c = λ path field query is. of_search c.args.words.now _ (shown c.in-Some.command) path field query c.in-Some.ensures is c.obey.ensures.whole
+
+pub returns-clause-search_short : goal.returns-clause-search_short
+returns-clause-search_short g c = λ path field query is. of_search c.args.words.now _ (shown c.in-Some.command) path field query c.in-Some.ensures is c.obey.ensures.short
+
+pub returns-clause-reads : goal.returns-clause-reads
+returns-clause-reads g c = λ path field query is. of_search c.args.words.now _ (shown c.in-Some.command) path field query c.in-Some.ensures is c.obey.ensures.reads
+
+pub returns-clause-fetches : goal.returns-clause-fetches
+returns-clause-fetches g c = λ path field query is. of_search c.args.words.now _ (shown c.in-Some.command) path field query c.in-Some.ensures is c.obey.ensures.fetches
+
+pub returns-clause-reads_nothing : goal.returns-clause-reads_nothing
+returns-clause-reads_nothing g c = λ path field query is. of_search c.args.words.now _ (shown c.in-Some.command) path field query c.in-Some.ensures is c.obey.ensures.reads_nothing
+
+-- no command
+
+pub returns-in_default-clause-build_ends : goal.returns-in_default-clause-build_ends
+returns-in_default-clause-build_ends g c = λ path pages is. absurd (c.in_default.ensures (build path pages) is)
+
+pub returns-in_default-clause-build_done : goal.returns-in_default-clause-build_done
+returns-in_default-clause-build_done g c = λ path pages is. absurd (c.in_default.ensures (build path pages) is)
+
+pub returns-in_default-clause-ask_ends : goal.returns-in_default-clause-ask_ends
+returns-in_default-clause-ask_ends g c = λ field query is. absurd (c.in_default.ensures (ask field query) is)
+
+pub returns-in_default-clause-ask_done : goal.returns-in_default-clause-ask_done
+returns-in_default-clause-ask_done g c = λ field query is. absurd (c.in_default.ensures (ask field query) is)
+
+pub returns-in_default-clause-tree_ends : goal.returns-in_default-clause-tree_ends
+returns-in_default-clause-tree_ends g c = λ query is. absurd (c.in_default.ensures (tree query) is)
+
+pub returns-in_default-clause-search_ends : goal.returns-in_default-clause-search_ends
+returns-in_default-clause-search_ends g c = λ path field query is. absurd (c.in_default.ensures (search path field query) is)
+
+pub returns-in_default-clause-search_done : goal.returns-in_default-clause-search_done
+returns-in_default-clause-search_done g c = λ path field query is. absurd (c.in_default.ensures (search path field query) is)
+
+pub returns-in_default-clause-search_version : goal.returns-in_default-clause-search_version
+returns-in_default-clause-search_version g c = λ path field query is. absurd (c.in_default.ensures (search path field query) is)
+
+pub returns-in_default-clause-search_short : goal.returns-in_default-clause-search_short
+returns-in_default-clause-search_short g c = λ path field query is. absurd (c.in_default.ensures (search path field query) is)

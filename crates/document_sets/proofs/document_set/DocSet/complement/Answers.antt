@@ -1,9 +1,7 @@
-use Rattle.std.proofs.Common.{ap, sym, ◌∙◌, subst, rules, refl, ◌<◌, ◌≡◌, ℕ, List, [], All}
+use Rattle.std.proofs.Common.{ap, sym, ◌∙◌}
 use Rattle.std.specs.FinSet as set
-use Rattle.std.proofs.lemmas.Bool.{lt-ltb}
-use Rattle.common_bitset.specs.Numbers.{below, IsBelow}
-use Rattle.common_bitset.specs.Laws.Sets.{contains_empty, contains_below, difference-empty, rising_empty}
-use Rattle.document_sets.specs.Members.{with_numbers}
+use Rattle.common_bitset.specs.Numbers.{below}
+use Rattle.common_bitset.specs.Laws.Sets.{difference-empty}
 use Rattle.document_sets.proofs.Sets as sets
 use Rattle.document_sets.proofs.Shapes as shapes
 use Rattle.document_sets.proofs.document_set.DocSet.complement.Goals as goal
@@ -17,7 +15,7 @@ pub returns-in-Nothing-clause-elements : goal.returns-in-Nothing-clause-elements
 returns-in-Nothing-clause-elements c =
     let from = ap (λ s. s.max_value) c.self.view_is in
     let is = ap below from ∙ sym (difference-empty (below c.args.self.now.max_value))
-          ∙ ap (set.difference (below c.args.self.now.max_value)) (shapes.nothing-is _ c.self.inside.members _ c.in-Nothing.is c.self.view_is) in
+    ∙ ap (set.difference (below c.args.self.now.max_value)) (shapes.nothing-is _ c.self.inside.members _ c.in-Nothing.is c.self.view_is) in
     elim c.match-self-2.branch [
       | in-Listed-1 w ↦ ap (λ s. s.elements) w.self-is ∙ is
       | in-Nothing-1 w ↦ ap (λ s. s.elements) w.self-is ∙ is
@@ -26,7 +24,7 @@ returns-in-Nothing-clause-elements c =
 pub returns-in-Everything-clause-elements : goal.returns-in-Everything-clause-elements
 returns-in-Everything-clause-elements c =
     let is = sym (sets.full-difference c.args.self.now.max_value)
-          ∙ ap (set.difference (below c.args.self.now.max_value)) (shapes.everything-is _ c.self.inside.members _ c.in-Everything.is c.self.view_is) in
+    ∙ ap (set.difference (below c.args.self.now.max_value)) (shapes.everything-is _ c.self.inside.members _ c.in-Everything.is c.self.view_is) in
     elim c.match-self-3.branch [
       | in-Listed-2 w ↦ ap (λ s. s.elements) w.self-is ∙ is
       | in-Nothing-2 w ↦ ap (λ s. s.elements) w.self-is ∙ is

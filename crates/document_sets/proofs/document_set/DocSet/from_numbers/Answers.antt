@@ -1,7 +1,5 @@
-use Rattle.std.proofs.Common.{ap, sym, ◌∙◌, subst, rules, refl, ◌<◌, ◌≡◌, ℕ, List, [], All}
+use Rattle.std.proofs.Common.{ap, ◌∙◌}
 use Rattle.std.specs.FinSet as set
-use Rattle.common_bitset.specs.Numbers.{below, IsBelow}
-use Rattle.common_bitset.specs.Laws.Sets.{contains_empty, contains_below, difference-empty, rising_empty}
 use Rattle.document_sets.specs.Members.{with_numbers}
 use Rattle.document_sets.proofs.Sets as sets
 use Rattle.document_sets.proofs.Shapes as shapes

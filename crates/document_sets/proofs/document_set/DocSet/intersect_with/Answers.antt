@@ -1,8 +1,5 @@
-use Rattle.std.proofs.Common.{ap, sym, ◌∙◌, subst, rules, refl, ◌<◌, ◌≡◌, ℕ, List, [], All}
+use Rattle.std.proofs.Common.{ap, sym, ◌∙◌, refl}
 use Rattle.std.specs.FinSet as set
-use Rattle.common_bitset.specs.Numbers.{below, IsBelow}
-use Rattle.common_bitset.specs.Laws.Sets.{contains_empty, contains_below, difference-empty, rising_empty}
-use Rattle.document_sets.specs.Members.{with_numbers}
 use Rattle.document_sets.proofs.Sets as sets
 use Rattle.document_sets.proofs.Shapes as shapes
 use Rattle.document_sets.proofs.document_set.DocSet.intersect_with.Goals as goal
@@ -14,7 +11,7 @@ returns-in-Nothing-clause-elements c = shapes.nothing-intersection _ c.self.insi
 pub returns-in-Nothing-members : goal.returns-in-Nothing-members
 returns-in-Nothing-members c =
     let is = sym (sets.intersection-none c.args.self.now.elements)
-          ∙ ap (set.intersection c.args.self.now.elements) (shapes.nothing-is _ c.other.inside.members _ c.in-Nothing-members.is c.other.view_is) in
+    ∙ ap (set.intersection c.args.self.now.elements) (shapes.nothing-is _ c.other.inside.members _ c.in-Nothing-members.is c.other.view_is) in
     elim c.match-self-2.branch [
       | in-Listed-2 w ↦ record { elements = ap (λ s. s.elements) w.self-is ∙ is; max_value = ap (λ s. s.max_value) w.self-is ∙ ap (λ s. s.max_value) c.self.view_is }
       | in-Nothing-2 w ↦ record { elements = ap (λ s. s.elements) w.self-is ∙ is; max_value = ap (λ s. s.max_value) w.self-is ∙ ap (λ s. s.max_value) c.self.view_is }
@@ -25,7 +22,7 @@ returns-in-Everything c =
     let mine = (shapes.proper _ c.self.inside.members _ c.self.invariant c.self.view_is).within in
     record {
       elements =
-        sym (sets.intersection-full c.args.other.max_value c.args.self.now.elements (shapes.below-same _ _ _ (sym c.requires) mine))
-        ∙ ap (set.intersection c.args.self.now.elements) (shapes.everything-is _ c.other.inside.members _ c.in-Everything.is c.other.view_is);
+          sym (sets.intersection-full c.args.other.max_value c.args.self.now.elements (shapes.below-same _ _ _ (sym c.requires) mine))
+          ∙ ap (set.intersection c.args.self.now.elements) (shapes.everything-is _ c.other.inside.members _ c.in-Everything.is c.other.view_is);
       max_value = refl;
     }

@@ -1,8 +1,7 @@
-use Rattle.std.proofs.Common.{ap, sym, ◌∙◌, arith, true, false, subst, rules, refl, ◌<◌, ◌≡◌, ℕ, List, [], All}
+use Rattle.std.proofs.Common.{ap, sym, ◌∙◌, arith, true, false, ◌≡◌}
 use Rattle.std.specs.FinSet as set
-use Rattle.common_bitset.specs.Numbers.{below, IsBelow, rising}
-use Rattle.common_bitset.specs.Laws.Sets.{contains_empty, contains_below, difference-empty, rising_empty}
-use Rattle.document_sets.specs.Members.{with_numbers}
+use Rattle.common_bitset.specs.Numbers.{rising}
+use Rattle.common_bitset.specs.Laws.Sets.{rising_empty}
 use Rattle.document_sets.proofs.Sets as sets
 use Rattle.document_sets.proofs.Shapes as shapes
 use Rattle.document_sets.proofs.document_set.DocSet.to_ids.Goals as goal

@@ -1,10 +1,4 @@
-use Rattle.std.proofs.Common.{ap, sym, ◌∙◌, subst, rules, refl, ◌<◌, ◌≡◌, ℕ, List, [], All}
-use Rattle.std.specs.FinSet as set
-use Rattle.std.proofs.lemmas.Bool.{lt-ltb}
-use Rattle.common_bitset.specs.Numbers.{below, IsBelow}
-use Rattle.common_bitset.specs.Laws.Sets.{contains_empty, contains_below, difference-empty, rising_empty}
-use Rattle.document_sets.specs.Members.{with_numbers}
-use Rattle.document_sets.proofs.Sets as sets
+use Rattle.std.proofs.Common.{ap, sym, ◌∙◌}
 use Rattle.document_sets.proofs.Shapes as shapes
 use Rattle.document_sets.proofs.document_set.DocSet.union_with_bits.Goals as goal
 use Rattle.document_sets.proofs.document_set.DocSet.union_with_bits.Goals.{in-Listed-1, in-Nothing-1}

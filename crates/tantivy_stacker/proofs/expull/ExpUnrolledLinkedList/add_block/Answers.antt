@@ -1,6 +1,6 @@
-use Rattle.std.proofs.Common.{◌≡◌, ◌+◌, ◌<◌, sym, ap, subst, arith, ◌∙◌}
+use Rattle.std.proofs.Common.{◌≡◌, ◌+◌, sym, ap, subst, arith, ◌∙◌}
 use Rattle.tantivy_stacker.specs.Arena.{HandsOut}
-use Rattle.tantivy_stacker.specs.Lists.{block_size, HasNewBlock}
+use Rattle.tantivy_stacker.specs.Lists.{block_size}
 use Rattle.tantivy_stacker.proofs.Lists.{first_block, next_block_added, free_lies, number_small}
 use Rattle.tantivy_stacker.proofs.expull.ExpUnrolledLinkedList.add_block.Goals as goal
 

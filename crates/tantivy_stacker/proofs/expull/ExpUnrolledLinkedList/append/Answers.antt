@@ -1,4 +1,4 @@
-use Rattle.std.proofs.Common.{◌≡◌, ◌≤◌, length, arith, rules}
+use Rattle.std.proofs.Common.{rules}
 use Rattle.tantivy_stacker.proofs.Appending.{appending_begin, appending_more, error_bytes, error_write, done_write, spends, needed, done_bytes}
 use Rattle.tantivy_stacker.proofs.expull.ExpUnrolledLinkedList.append.Goals as goal
 

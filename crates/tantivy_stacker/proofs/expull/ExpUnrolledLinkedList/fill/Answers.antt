@@ -1,4 +1,4 @@
-use Rattle.std.proofs.Common.{◌≡◌, ◌≤◌, length, take, arith}
+use Rattle.std.proofs.Common.{◌≡◌, length, take, arith}
 use Rattle.std.proofs.lemmas.List.{length-take-le}
 use Rattle.tantivy_stacker.proofs.Lists.{has_block, free_lies, fill_step, rest_bound}
 use Rattle.tantivy_stacker.proofs.expull.ExpUnrolledLinkedList.fill.Goals as goal

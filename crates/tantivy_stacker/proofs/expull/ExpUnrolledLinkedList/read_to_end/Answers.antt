@@ -1,7 +1,7 @@
 use Rattle.tantivy_stacker.specs.Arena.{bytes_at}
 use Rattle.tantivy_stacker.specs.Lists.{block_size, used}
-use Rattle.std.proofs.Common.{rules, ◌≡◌, ◌+◌, ◌-◌, ◌%◌, ◌^◌, ◌<◌, ◌≤◌, ◌∙◌, arith}
-use Rattle.tantivy_stacker.proofs.Reading.{nothing_read, reading_begin, end_lies, end_bytes, block_lies, link_lies, reading_more, kept_more, last_read, last_kept}
+use Rattle.std.proofs.Common.{◌≡◌, ◌+◌, ◌%◌, ◌^◌, ◌∙◌, arith}
+use Rattle.tantivy_stacker.proofs.Reading.{nothing_read, reading_begin, end_lies, end_bytes, block_lies, link_lies, reading_more, last_read, last_kept}
 use Rattle.tantivy_stacker.proofs.expull.ExpUnrolledLinkedList.read_to_end.Goals as goal
 
 pub returns-then-self-eq-FIRST_BLOCK_NUM-clause-bytes :

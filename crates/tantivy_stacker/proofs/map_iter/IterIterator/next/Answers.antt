@@ -1,4 +1,4 @@
-use Rattle.std.proofs.Common.{◌≡◌, ◌∷◌, ◌+◌, ◌<◌, ◌≤◌, ℕ, length, refl, sym, ap, ◌∙◌, subst, filter, drop, arith}
+use Rattle.std.proofs.Common.{◌≡◌, ◌+◌, ◌<◌, ℕ, length, refl, ap, ◌∙◌, subst, filter, drop, arith}
 use Rattle.std.proofs.lemmas.List.{get_or_read}
 use Rattle.tantivy_stacker.specs.Maps.{place, is_taken, key_length, key_at, value_place}
 use Rattle.tantivy_stacker.proofs.Iterating.{first_entry, no_entry, none_left}

@@ -1,4 +1,3 @@
-use Rattle.std.proofs.Common.{rules}
 use Rattle.tantivy_stacker.proofs.Arena.{laws_from}
 use Rattle.tantivy_stacker.proofs.memory_arena.MemoryArena.allocate_space.Goals as goal
 

@@ -1,7 +1,7 @@
-use Rattle.std.proofs.Common.{◌≡◌, ◌/◌, ◌%◌, ◌-◌, ◌<◌, ◌≤◌, List, [], ℕ, length, take, drop, set, refl, sym, subst, ap, ◌∙◌, arith}
-use Rattle.std.proofs.lemmas.List.{get_or_read, take_rest}
-use Rattle.tantivy_stacker.specs.Arena.{Arena, Lies, Writes, page_bytes, page, put_on_page, bytes_at, with_slice}
-use Rattle.tantivy_stacker.proofs.Arena.{Writes-slice, Lies-rest}
+use Rattle.std.proofs.Common.{◌≡◌, ◌/◌, ◌%◌, ◌≤◌, List, [], ℕ, length, take, drop, set, refl, sym, subst, ap, ◌∙◌, arith}
+use Rattle.std.proofs.lemmas.List.{get_or_read}
+use Rattle.tantivy_stacker.specs.Arena.{Arena, Lies, page_bytes, page, put_on_page, bytes_at, with_slice}
+use Rattle.tantivy_stacker.proofs.Arena.{Writes-slice}
 use Rattle.tantivy_stacker.proofs.memory_arena.MemoryArena.slice_mut.Goals as goal
 
 pub returns : goal.returns

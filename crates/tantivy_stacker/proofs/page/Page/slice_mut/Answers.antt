@@ -1,4 +1,4 @@
-use Rattle.std.proofs.Common.{◌≡◌, ◌≤◌, ◌+◌, List, ℕ, length, refl, sym, subst, ap, ◌∙◌, rules, arith, take, drop}
+use Rattle.std.proofs.Common.{◌≤◌, ◌+◌, List, ℕ, length, refl, sym, subst, ap, ◌∙◌, rules, arith, take}
 use Rattle.tantivy_stacker.specs.Arena.{put_on_page}
 use Rattle.tantivy_stacker.proofs.Pages.{refill-put}
 use Rattle.tantivy_stacker.proofs.page.Page.slice_mut.Goals as goal

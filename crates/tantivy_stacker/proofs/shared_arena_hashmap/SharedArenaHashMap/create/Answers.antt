@@ -1,6 +1,6 @@
-use Rattle.std.proofs.Common.{◌≡◌, ◌+◌, ◌≤◌, ℕ, length, sym, ap, ◌∙◌, subst, arith}
+use Rattle.std.proofs.Common.{◌+◌, length, subst}
 use Rattle.tantivy_stacker.specs.Arena.{HandsOut}
-use Rattle.tantivy_stacker.specs.Maps.{Table, MapWrite, MapPuts}
+use Rattle.tantivy_stacker.specs.Maps.{MapWrite, MapPuts}
 use Rattle.tantivy_stacker.proofs.Maps.{inserted_write, inserted_puts, placed}
 use Rattle.tantivy_stacker.proofs.shared_arena_hashmap.SharedArenaHashMap.create.Goals as goal
 

@@ -1,4 +1,3 @@
-use Rattle.std.proofs.Common.{◌≡◌, ◌+◌, ◌≤◌, ℕ, List, length, sym, ap, subst, rules, ◌∙◌}
 use Rattle.tantivy_stacker.specs.Maps.{cut_key}
 use Rattle.tantivy_stacker.proofs.Mutating.{held_now, room_now, all_write, all_stays, all_puts, all_called, finds_now, absent_now, all_absent}
 use Rattle.tantivy_stacker.proofs.shared_arena_hashmap.SharedArenaHashMap.mutate_or_create.Goals as goal

@@ -1,6 +1,6 @@
-use Rattle.std.proofs.Common.{refl, ◌≡◌, ◌+◌, ◌≤◌, ℕ, length, sym, ap, ◌∙◌, subst, arith}
+use Rattle.std.proofs.Common.{refl, ◌≡◌, ◌+◌, ℕ, ap, ◌∙◌, subst}
 use Rattle.tantivy_stacker.specs.Arena.{Writes}
-use Rattle.tantivy_stacker.specs.Maps.{Table, place, value_place, key_length, key_at}
+use Rattle.tantivy_stacker.specs.Maps.{place, value_place, key_length, key_at}
 use Rattle.tantivy_stacker.proofs.Maps.{updated_write, updated_puts, read_place}
 use Rattle.tantivy_stacker.proofs.shared_arena_hashmap.SharedArenaHashMap.update.Goals as goal
 

@@ -1,5 +1,4 @@
-use Rattle.std.proofs.Common.{◌≡◌, ◌∙◌, ap, refl, cond}
-use Rattle.std.specs.Result.{is_ok}
+use Rattle.std.proofs.Common.{◌∙◌, refl}
 use Rattle.tantivy_stacker.proofs.MapFacts.{new_table, grown_from_none, empty_held}
 use Rattle.tantivy_stacker.proofs.shared_arena_hashmap.SharedArenaHashMap.with_capacity.Goals as goal
 

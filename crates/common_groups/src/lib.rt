@@ -1,0 +1,10 @@
+//! Runs of items with one key.
+#![tactic(auto)]
+
+mod groups;
+mod laws;
+#[cfg(test)]
+mod tests;
+
+pub use groups::{GroupByIterator, GroupByIteratorExtended, GroupIterator};
+pub use laws::groups_are_runs;

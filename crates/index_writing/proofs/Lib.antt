@@ -1,0 +1,6 @@
+pub mod Numbering
+pub mod Adding
+pub mod Gathered
+pub mod Inserts
+pub mod Facts
+pub mod Files

@@ -1,0 +1,5 @@
+use Rattle.index_writing.proofs.Inserts.{gains-table}
+use Rattle.index_writing.proofs.table.append_table.Goals as goal
+
+pub returns : goal.returns
+returns c = gains-table c.finish.result _ c.args.sink _ c.in_ok-writer.ensures c.finish.ensures
