@@ -1,11 +1,11 @@
 -- What a builder's bytes spell.
-use Rattle.std.proofs.Common.{◌≡◌, ℕ, zero, suc, ◌+◌, ◌-◌, ◌*◌, ◌^◌, ◌<◌, ◌≤◌, List, [], ◌∷◌, ◌++◌, length, take, drop, map, Option, Some, None, Result, Ok, Err, OnOk, Bool, true, false, ◌&&◌, refl, ap, sym, ◌∙◌, subst, arith, length-append, append_assoc, length-drop, add-one, leb, eqb, cond}
+use Rattle.std.proofs.Common.{◌≡◌, ℕ, ◌+◌, ◌-◌, ◌^◌, ◌<◌, ◌≤◌, List, [], ◌∷◌, ◌++◌, length, drop, map, Option, Some, None, Result, Ok, Err, OnOk, true, false, refl, ap, sym, ◌∙◌, subst, arith, length-append, append_assoc, length-drop, add-one, leb, eqb, cond}
 use Rattle.std.proofs.lemmas.Bool.{le-leb, leb-true, and_parts, and_from, eqb-true, ne_eqb}
-use Rattle.std.proofs.lemmas.List.{take_all, drop_all, drop_at, map-append, nil_from_length, append-nil}
+use Rattle.std.proofs.lemmas.List.{take_all, drop_all, drop_at, nil_from_length, append-nil}
 use Rattle.std.specs.Int.{w64, to_le_bytes}
 use Rattle.std.specs.Prelude.{is_some, unwrap_or}
 use Rattle.std.specs.Result.{is_err}
-use Rattle.owned_bytes.specs.Front.{Reading, ◌>>=◌, provided, number_at, bytes_at}
+use Rattle.owned_bytes.specs.Front.{◌>>=◌, provided, number_at, bytes_at}
 unfoldable use Rattle.owned_bytes.specs.Front.{counted}
 use Rattle.owned_bytes.specs.Keys.{Key, is_below}
 unfoldable use Rattle.owned_bytes.specs.Keys.{is_rising}

@@ -1,5 +1,5 @@
 -- What a builder keeps of the keys that it was given.
-use Rattle.std.specs.Prelude.{◌≡◌, ℕ, ◌*◌, ◌≤◌, List, [], drop, length, map, true, Option, Some, None, is_some, unwrap_or, ◌==◌, if◌then◌else◌}
+use Rattle.std.specs.Prelude.{◌≡◌, ℕ, ◌*◌, ◌≤◌, List, [], drop, length, map, true, Some, None, is_some, unwrap_or, ◌==◌, if◌then◌else◌}
 use Rattle.owned_bytes.specs.Keys.{Key, is_rising}
 use Rattle.fst_map.specs.Map.{last_key}
 unfoldable use Rattle.fst_map.specs.Map.{entries_in}

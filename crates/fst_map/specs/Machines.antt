@@ -1,13 +1,8 @@
 -- The four machines meet the laws.
-use Rattle.std.proofs.Common.{◌≡◌, ℕ, zero, suc, ◌+◌, ◌<◌, ◌≤◌, List, [], ◌∷◌, ◌++◌, length, take, Bool, true, false, ◌||◌, Option, Some, None, refl, ap, sym, ◌∙◌, ◌⊎◌, inl, inr, ⊎_elim, arith, append_assoc, get_or, eqb, leb, ltb, rules}
-use Rattle.std.proofs.lemmas.Bool.{false≢true, true≢false, or_parts, or_cases, or_from, or_left, or_right, cases_Bool}
+use Rattle.std.proofs.Common.{◌≡◌, ℕ, List, [], ◌∷◌, true, ◌||◌, Some, None, refl, ap, ◌∙◌, ⊎_elim, arith}
+use Rattle.std.proofs.lemmas.Bool.{false≢true, true≢false, or_parts, or_cases, or_from, or_left, or_right}
 use Rattle.std.proofs.lemmas.Bool.Decides.{nat_tests}
-use Rattle.std.proofs.lemmas.List.{get_or_at, length-append}
-use Rattle.std.specs.Prelude.{nat_eq}
-use Rattle.std.specs.List.{starts_with}
-use Rattle.std.specs.Cmp.Lexicographic.{slice_cmp, pointwise}
-use Rattle.owned_bytes.specs.Keys.{is_same}
-use Rattle.fst_map.specs.Automaton.{Machine, after, takes, AreBytes, IsLawful, Takes, every_key, only, beginning_with, either, always, is_read, next_place, exact_accept, prefix_accept, exact, prefixed, joint}
+use Rattle.fst_map.specs.Automaton.{Machine, after, IsLawful, always, is_read, prefix_accept, exact, prefixed, joint}
 
 pub always-lawful : IsLawful always
 always-lawful state bytes are = (λ e. absurd (true≢false e), λ e. refl)

@@ -1,6 +1,6 @@
 -- How long the blocks of a table are.
-use Rattle.std.proofs.Common.{◌≡◌, ℕ, ◌+◌, ◌-◌, ◌≤◌, List, [], ◌∷◌, ◌++◌, length, take, drop, map, Bool, true, false, ◌&&◌, Option, Some, None, Result, Ok, Err, refl, ap, sym, ◌∙◌, arith, length-append, length-take, length-drop, eqb}
-use Rattle.std.specs.Prelude.{max, nat_le, slice_range}
+use Rattle.std.proofs.Common.{◌≡◌, ℕ, ◌+◌, ◌-◌, ◌≤◌, List, [], ◌∷◌, length, take, drop, map, true, ◌&&◌, Option, Some, None, Ok, Err, refl, ap, sym, ◌∙◌, arith, length-append, length-take, length-drop, eqb}
+use Rattle.std.specs.Prelude.{slice_range}
 use Rattle.std.proofs.lemmas.Bool.{and_parts, leb-true}
 use Rattle.std.specs.Ordering.{nat_cmp, ordering_then}
 use Rattle.std.specs.Cmp.Lexicographic.{slice_cmp}
@@ -17,7 +17,7 @@ unfoldable use Rattle.sstable_blocks.specs.Block.{block_of}
 use Rattle.sstable_blocks.specs.Run.{Block, Run, block_or_end, front_of_blocks, last_key, may_follow, key_before, entries_of}
 unfoldable use Rattle.sstable_blocks.specs.Run.{blocks_after, whole_run_of}
 use Rattle.sstable_blocks.proofs.RunLaws.{blocks-shrink, block-split}
-use Rattle.tantivy_sstable.specs.Index.{Index, AtMostOneBlock, Entries, is_zeros}
+use Rattle.tantivy_sstable.specs.Index.{is_zeros}
 use Rattle.tantivy_sstable.specs.Table.{keeping_nothing, indexes}
 unfoldable use Rattle.tantivy_sstable.specs.Table.{points_to, places_from, blocks_of, blocks_under}
 use Rattle.tantivy_sstable.specs.Opened.{Opened, blocks_told, longest, FetchesBlock}

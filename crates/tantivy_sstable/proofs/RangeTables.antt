@@ -1,11 +1,11 @@
 -- How long a block of ranges is, and which range may come next.
-use Rattle.std.proofs.Common.{◌≡◌, ℕ, zero, suc, ◌+◌, ◌-◌, ◌*◌, ◌/◌, ◌%◌, ◌^◌, ◌<◌, ◌≤◌, List, [], ◌∷◌, ◌++◌, length, drop, map, true, false, ◌&&◌, Option, Some, None, refl, ap, sym, ◌∙◌, arith, length-append, length-drop}
-use Rattle.std.specs.Prelude.{nat_lt, nat_le, nat_eq, if◌then◌else◌, ◌==◌}
+use Rattle.std.proofs.Common.{◌≡◌, ℕ, zero, suc, ◌+◌, ◌-◌, ◌*◌, ◌/◌, ◌%◌, ◌≤◌, List, [], ◌∷◌, ◌++◌, length, drop, true, false, ◌&&◌, Some, refl, ap, sym, ◌∙◌, arith, length-append, length-drop}
+use Rattle.std.specs.Prelude.{nat_lt, nat_eq, if◌then◌else◌}
 use Rattle.std.specs.List.{flat_map, zip}
 use Rattle.std.specs.declared.ops.Range.{Range}
 use Rattle.std.proofs.lemmas.Bool.{le-leb, eqb-true}
 use Rattle.std.proofs.lemmas.List.{length-map}
-use Rattle.owned_bytes.specs.Front.{◌>>=◌, provided}
+use Rattle.owned_bytes.specs.Front.{provided}
 use Rattle.owned_bytes.specs.Keys.{Key, shared}
 use Rattle.owned_bytes.proofs.Pieces.{bind_some, some_is, provided-true}
 unfoldable use Rattle.sstable_blocks.specs.Vint.{vint, groups}
@@ -17,7 +17,6 @@ use Rattle.sstable_blocks.specs.Codec.{bounds_of, rising_numbers}
 unfoldable use Rattle.sstable_blocks.specs.Codec.{sums, range}
 use Rattle.sstable_blocks.specs.Range.{ends_at, may_adjoin}
 use Rattle.sstable_blocks.specs.Writing.{WriterState, keys_in, content}
-use Rattle.tantivy_sstable.specs.Making.{TableState, HasInserted, IsTooLong}
 use Rattle.tantivy_sstable.specs.Laws.{keys_size, values_in, ShortRangesFit, AdjoiningRangesAreTaken, LastRangeEnds}
 
 groups-short : (k n : ℕ) → length (groups k n) ≤ k

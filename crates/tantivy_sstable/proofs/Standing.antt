@@ -13,7 +13,7 @@ use Rattle.sstable_blocks.specs.Values.{Values}
 use Rattle.sstable_blocks.specs.Content.{Found, content_after}
 unfoldable use Rattle.sstable_blocks.specs.Content.{block_at}
 unfoldable use Rattle.sstable_blocks.specs.Delta.{delta_at}
-use Rattle.sstable_blocks.specs.Entries.{Entry, Walk, Step, IsFresh, MemoryOr, entry_at, to_entry, within_block, to_first, to_block, onward, step_from, step}
+use Rattle.sstable_blocks.specs.Entries.{Entry, Walk, Step, IsFresh, MemoryOr, entry_at, to_entry, to_first, to_block, onward, step_from, step}
 use Rattle.sstable_blocks.proofs.BlockLaws.{block-parts}
 use Rattle.tantivy_sstable.specs.Opening.{is_compressed_at, IsReadError}
 use Rattle.tantivy_sstable.specs.Reading.{TellsPlace, TellsPlaceAt, error_of_block}

@@ -1,7 +1,7 @@
 // The hash of a key, over eight bytes at a time.
-ghost use Rattle.std.specs.Prelude.{◌≡◌, ◌≤◌, length, take};
-ghost use Rattle.std.specs.Int.{w64, from_le_bytes};
-ghost use Rattle.tantivy_stacker.specs.Hashing.{mixed, tail_word, hash_of};
+ghost use Rattle.std.specs.Prelude.{◌≡◌, ◌<◌, ◌≤◌, ◌^◌, length, take};
+ghost use Rattle.std.specs.Int.{w32, w64, from_le_bytes};
+ghost use Rattle.tantivy_stacker.specs.Hashing.{mixed, short_word, tail_word, hash_of};
 
 /// An odd number whose bits are well spread: 2^64 divided by the golden ratio.
 const SPREAD: u64 = 11400714819323198485;
@@ -16,16 +16,46 @@ fn mix(gathered: u64, word: u64) -> u64
     product ^ (product >> 32)
 }
 
+/// The first four bytes as a word.
+#[inline(always)]
+fn half_word(bytes: &[u8]) -> u64
+    requires { 4 ≤ length bytes.now }
+    ensures value { result ≡ from_le_bytes w32 (take 4 bytes.now) }
+    ensures bound { result < 2 ^ 32 }
+{
+    match bytes.first_chunk::<4>() {
+        Some(word) => u64::from(u32::from_le_bytes(*word)),
+        None => unreachable!(),
+    }
+}
+
+/// Fewer than four bytes as a word.
+#[inline(always)]
+#[tactic(auto, unfolding(crate::specs::Hashing::short_word))]
+fn short_tail(bytes: &[u8]) -> u64
+    ensures { result ≡ short_word bytes.now }
+{
+    if bytes.is_empty() {
+        return 0;
+    }
+    let first = u64::from(bytes[0]);
+    let middle = u64::from(bytes[bytes.len() / 2]);
+    let last = u64::from(bytes[bytes.len() - 1]);
+    first + middle * 256 + last * 65536
+}
+
+/// Fewer than eight bytes as a word.
 #[inline(always)]
 #[tactic(auto, unfolding(crate::specs::Hashing::tail_word))]
 fn tail(bytes: &[u8]) -> u64
     ensures { result ≡ tail_word bytes.now }
 {
-    let mut word = 0u64;
-    for byte in bytes {
-        word = word.wrapping_mul(256).wrapping_add(u64::from(*byte));
+    let len = bytes.len();
+    if len < 4 {
+        return short_tail(bytes);
     }
-    word
+    let last = half_word(&bytes[len - 4..]);
+    half_word(bytes) + last * (1 << 32)
 }
 
 #[inline]

@@ -72,12 +72,12 @@ fn keys_of_all_lengths(rt: HostRuntime) -> Result<(), Fail> {
 
 #[test]
 fn two_keys_of_one_hash(rt: HostRuntime) -> Result<(), Fail> {
-    assert_eq!(rt; get_hash(b"k127804"), get_hash(b"k152289"));
+    assert_eq!(rt; get_hash(b"k119618"), get_hash(b"k281721"));
     let mut map: ArenaHashMap<u32> = ArenaHashMap::new(rt.alloc())?;
-    map.mutate_or_create(b"k127804", |_| 1)?;
-    map.mutate_or_create(b"k152289", |_| 2)?;
-    assert_eq!(rt; map.get(b"k127804"), Some(1));
-    assert_eq!(rt; map.get(b"k152289"), Some(2));
+    map.mutate_or_create(b"k119618", |_| 1)?;
+    map.mutate_or_create(b"k281721", |_| 2)?;
+    assert_eq!(rt; map.get(b"k119618"), Some(1));
+    assert_eq!(rt; map.get(b"k281721"), Some(2));
     Ok(())
 }
 

@@ -1,8 +1,7 @@
 -- Which outcome is left, where a command says what it does.
-use Rattle.std.proofs.Common.{◌≡◌, ◌≢◌, ◌≤◌, ◌<◌, ◌⊎◌, ◌∷◌, [], ◌^◌, inl, inr, ℕ, length, List, Bool, true, false, not, Option, Some, None, refl, sym, ap, ◌∙◌, subst}
-use Rattle.std.specs.Prelude.{nat_lt, cond, is_some}
+use Rattle.std.proofs.Common.{◌≡◌, ◌≢◌, ◌≤◌, ◌<◌, ◌∷◌, [], ◌^◌, inl, inr, ℕ, length, List, Bool, true, false, not, Option, Some, None, refl, sym, ap, ◌∙◌, subst}
+use Rattle.std.specs.Prelude.{cond, is_some}
 use Rattle.std.proofs.lemmas.Bool.{lt-ltb, le-ltb, true≢false}
-use Rattle.std.specs.Io.KnownBytes.{Keeps}
 use Rattle.owned_bytes.specs.Front.{◌>>=◌, provided}
 use Rattle.query_tree.specs.declared.tree.UserInputAst.{UserInputAst}
 use Rattle.query_tree.specs.Answer as grammar
@@ -12,18 +11,18 @@ use Rattle.term_documents.specs.declared.documents.Doc.{Doc}
 use Rattle.term_documents.specs.declared.faults.Fault.TheVariants as faults
 use Rattle.term_documents.specs.declared.faults.PlacedFault.{PlacedFault}
 use Rattle.term_documents.specs.Documents.{AreValidDocuments, documents_size, first_fault}
-use Rattle.index_file.specs.Opening.{is_waiting_file, IsDamaged}
+use Rattle.index_file.specs.Opening.{is_waiting_file}
 use Rattle.index_writing.specs.Writes.{size_limit, AppendsIndex}
 use Rattle.term_search.specs.declared.answer.Kind.{Kind}
 use Rattle.term_search.specs.declared.answer.Kind.TheVariants.{Slop, Regex}
 use Rattle.term_search.specs.Leaves.{first_unsupported, has_waiting_leaf}
 use Rattle.term_search.specs.Searching.{IsTaken, IsSearched, CanBeSearched}
 use Rattle.term_index.specs.declared.outcome.Outcome.{Outcome}
-use Rattle.term_index.specs.declared.outcome.Outcome.TheVariants.{Done, Usage, NotYet, InputTooLong, BadInput, TooManyDocuments, BadField, KeyTooLong, ArenaFull, Query, TooDeep, UnsupportedSlop, UnsupportedRegex, Version, Corrupt, Compressed, InFault, StoreFault, ReadFault, OutFault, Memory}
+use Rattle.term_index.specs.declared.outcome.Outcome.TheVariants.{Done, NotYet, InputTooLong, BadInput, TooManyDocuments, BadField, KeyTooLong, ArenaFull, Query, TooDeep, UnsupportedSlop, UnsupportedRegex, Version, Corrupt, Compressed, InFault, StoreFault, ReadFault, OutFault, Memory}
 use Rattle.term_index.specs.Reading.{docs_of}
 use Rattle.term_index.specs.Refusals.{input_limit, Spell, AreKept, Refuses}
 use Rattle.term_index.specs.Running.{Builds, Searches, Asks, PrintsTree, RefusesQuery, IsLaterQuery, ask_pages}
-use Rattle.term_index.specs.Ending.{IsAmong, placed_end, fault_end, size_end, documents_end, read_end, build_end, unsupported_end, leaves_end, answer_end, query_end, shown_end, tree_end, then_end, ask_end, BuildEnds, AskEnds, TreeEnds, RefusalEnds}
+use Rattle.term_index.specs.Ending.{IsAmong, fault_end, size_end, documents_end, read_end, build_end, unsupported_end, leaves_end, answer_end, query_end, shown_end, tree_end, then_end, ask_end, BuildEnds, AskEnds, TreeEnds, RefusalEnds}
 use Rattle.term_index.proofs.Valid.{valid_first}
 use Rattle.term_index.proofs.OtherVersion.{other_version_ready}
 

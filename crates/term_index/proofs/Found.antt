@@ -1,18 +1,16 @@
 -- What a search finds, in the words of the commands.
-use Rattle.std.proofs.Common.{◌≡◌, ◌≤◌, ◌⊎◌, inl, inr, ℕ, List, Bool, true, false, Option, Some, None, Ok, Err, refl, sym, ap, ◌∙◌, arith}
-use Rattle.std.specs.Prelude.{IfSome}
-use Rattle.std.specs.Io.KnownBytes.{Appends, Keeps}
-use Rattle.owned_bytes.specs.Outside.{HasCause, Rose, AppendsPrefix}
+use Rattle.std.proofs.Common.{◌≡◌, inl, inr, ℕ, List, true, false, Option, Some, None, Ok, refl, sym, ap, ◌∙◌, arith}
+use Rattle.owned_bytes.specs.Outside.{HasCause}
 use Rattle.tantivy_sstable.specs.Opening.{version_of, is_known}
 use Rattle.term_documents.specs.declared.documents.Doc.{Doc}
 use Rattle.term_documents.specs.Postings.{Postings, gather}
-use Rattle.index_file.specs.IndexFile.{table_of, IsIndexOf}
-use Rattle.index_file.specs.Opening.{IsDamaged, is_waiting_file}
+use Rattle.index_file.specs.IndexFile.{table_of}
+use Rattle.index_file.specs.Opening.{IsDamaged}
 use Rattle.index_writing.specs.Writes.{IsWrittenFor}
 use Rattle.term_search.specs.declared.answer.Answer.{Answer}
-use Rattle.term_search.specs.Searching.{IsTaken, IsOfLater, CanBeSearched, AnswersQuery, AnswersTold}
+use Rattle.term_search.specs.Searching.{IsOfLater, AnswersQuery, AnswersTold}
 use Rattle.term_index.specs.declared.outcome.Outcome.{Outcome}
-use Rattle.term_index.specs.declared.outcome.Outcome.TheVariants.{Done, Usage, NotYet, InputTooLong, BadInput, TooManyDocuments, BadField, KeyTooLong, ArenaFull, Query, TooDeep, UnsupportedSlop, UnsupportedRegex, Version, Corrupt, Compressed, InFault, StoreFault, ReadFault, OutFault, Memory}
+use Rattle.term_index.specs.declared.outcome.Outcome.TheVariants.{Done, NotYet, Query, TooDeep, UnsupportedSlop, UnsupportedRegex, Version, Corrupt, Compressed, ReadFault, OutFault, Memory}
 use Rattle.term_index.specs.Printing.{lines, Prints}
 use Rattle.term_index.specs.Refusals.{AreKept}
 use Rattle.term_index.specs.Running.{Finds, FindsIn, Searches, AsksAbout, IsLaterQuery, ask_pages}

@@ -1,13 +1,12 @@
 -- What is appended where a command ends well, and that else nothing is.
-use Rattle.std.proofs.Common.{◌≡◌, ◌≢◌, ◌⊎◌, inl, inr, ℕ, List, Bool, true, false, Option, Some, None, refl, sym, ap, ◌∙◌, subst}
+use Rattle.std.proofs.Common.{◌≡◌, ◌≢◌, ℕ, List, Option, Some, None, refl, subst}
 use Rattle.std.specs.Io.KnownBytes.{Appends, Keeps}
-use Rattle.term_documents.specs.declared.documents.Doc.{Doc}
 use Rattle.term_index.specs.declared.outcome.Outcome.{Outcome}
-use Rattle.term_index.specs.declared.outcome.Outcome.TheVariants.{Done, Usage, NotYet, InputTooLong, BadInput, TooManyDocuments, BadField, KeyTooLong, ArenaFull, Query, TooDeep, UnsupportedSlop, UnsupportedRegex, Version, Corrupt, Compressed, InFault, StoreFault, ReadFault, OutFault, Memory}
+use Rattle.term_index.specs.declared.outcome.Outcome.TheVariants.{Done, Usage, NotYet, InputTooLong, BadInput, Query, TooDeep, UnsupportedSlop, UnsupportedRegex, Version, Corrupt, Compressed, InFault, StoreFault, ReadFault, OutFault, Memory}
 use Rattle.term_index.specs.Commands.{Command, build, search, ask, tree, generate}
 use Rattle.term_index.specs.Printing.{lines}
 use Rattle.term_index.specs.Running.{Builds, Searches, Asks, PrintsTree, Told, Does}
-use Rattle.term_index.specs.Headline.{AppendsIndexOf, AppendsSatisfying, AppendsMeaning, AppendsTree, OfDocuments, OfIndexed}
+use Rattle.term_index.specs.Headline.{AppendsIndexOf, AppendsSatisfying, AppendsMeaning, OfDocuments, OfIndexed}
 
 pub builds_index : (pages : ℕ) (left old new : Option (List ℕ)) → Builds pages Done left old new → OfDocuments left (λ docs. AppendsIndexOf docs old new)
 builds_index pages None old new says = tt

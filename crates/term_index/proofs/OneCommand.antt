@@ -1,6 +1,6 @@
 -- Words are one command.
-use Rattle.std.proofs.Common.{◌≡◌, ◌∙◌, ◌<◌, ◌≤◌, ◌^◌, ℕ, List, [], ◌∷◌, get_or, refl, sym, ap, subst, arith}
-use Rattle.std.specs.Prelude.{decimal, codes}
+use Rattle.std.proofs.Common.{◌≡◌, ◌∙◌, ℕ, List, [], ◌∷◌, get_or, refl, sym, ap, subst, arith}
+use Rattle.std.specs.Prelude.{decimal}
 use Rattle.term_index.specs.Commands.{Command, build, search, ask, tree, generate, IsCommand, IsWithinLimits, OfSearch}
 use Rattle.term_index.proofs.Forms.{decimal_once}
 

@@ -1,12 +1,12 @@
 -- A file of another version is no file that is still to be learned to read.
-use Rattle.std.proofs.Common.{◌≡◌, ℕ, ◌+◌, ◌-◌, ◌<◌, ◌≤◌, List, length, take, drop, Bool, Option, Some, None, true, false, not, refl, ap, sym, ◌∙◌, subst, arith, length-drop, length-take, drop-drop, leb}
+use Rattle.std.proofs.Common.{◌≡◌, ℕ, ◌+◌, ◌-◌, ◌≤◌, List, length, take, drop, Bool, Option, Some, None, true, false, not, refl, ap, sym, ◌∙◌, arith, length-drop, drop-drop, leb}
 use Rattle.std.specs.Int.{Width, byte_len, w32, w64, from_le_bytes}
 use Rattle.std.specs.Prelude.{is_some, ◌&&◌, ◌||◌, ◌==◌, nat_le}
 use Rattle.std.proofs.lemmas.Bool.{leb-true, leb-false}
 use Rattle.std.proofs.lemmas.List.{take_all}
 use Rattle.owned_bytes.specs.Front.{◌>>=◌, provided, number_at, bytes_at}
 use Rattle.owned_bytes.proofs.Pieces.{bind_some, some_is}
-use Rattle.tantivy_sstable.specs.Footer.{Footer, footer_at}
+use Rattle.tantivy_sstable.specs.Footer.{Footer}
 use Rattle.tantivy_sstable.specs.Index.{at_end}
 use Rattle.tantivy_sstable.specs.Opening.{version_of, is_known, is_waiting}
 use Rattle.tantivy_sstable.proofs.Ends.{number_at_end, footer_in}
@@ -33,12 +33,13 @@ behind_header file parts is =
     let b = second.0 in
     let third = bind_some (bytes_at (packed_length a.0 b.0) b.1) (λ (p : List ℕ × List ℕ). Some (record { documents = a.0; count = b.0; packed = p.0 }, p.1)) parts second.2 in
     let p = third.0 in
-    let length_is = packed_length a.0 b.0 in
-    (4 + 8 + length_is,
+    let length_is = packed_length a.0 b.0 in (
+      4 + 8 + length_is,
       ap (λ (q : Header × List ℕ). q.1) (sym (some_is (record { documents = a.0; count = b.0; packed = p.0 }, p.1) parts third.2))
-      ∙ behind_bytes length_is b.1 p third.1
-      ∙ ap (drop length_is) (behind_number w64 a.1 b second.1 ∙ ap (drop 8) (behind_number w32 file a first.1) ∙ drop-drop 8 4 file)
-      ∙ drop-drop length_is (4 + 8) file)
+          ∙ behind_bytes length_is b.1 p third.1
+          ∙ ap (drop length_is) (behind_number w64 a.1 b second.1 ∙ ap (drop 8) (behind_number w32 file a first.1) ∙ drop-drop 8 4 file)
+          ∙ drop-drop length_is (4 + 8) file,
+    )
 
 -- the version in the footer of a table, which is the end of a file, is that of the file
 footer_version : (file rest : List ℕ) (n version : ℕ) → rest ≡ drop n file → 28 ≤ length rest → version_of file ≡ Some version → (footer_in (drop (length rest - 20) rest)).version ≡ version
@@ -47,7 +48,7 @@ footer_version file rest n version is long told =
     let ending = drop (length rest - 20) rest in
     let twenty : length ending ≡ 20 = length-drop (length rest - 20) rest ∙ omega (arith, long) in
     let last : drop 16 ending ≡ drop (length file - 4) file =
-      drop-drop 16 (length rest - 20) rest ∙ ap (drop (length rest - 20 + 16)) is ∙ drop-drop (length rest - 20 + 16) n file ∙ ap (λ k. drop k file) (omega (arith, len, long)) in
+    drop-drop 16 (length rest - 20) rest ∙ ap (drop (length rest - 20 + 16)) is ∙ drop-drop (length rest - 20 + 16) n file ∙ ap (λ k. drop k file) (omega (arith, len, long)) in
     ap (from_le_bytes w32) (take_all 4 (drop 16 ending) (omega (arith, twenty, length-drop 16 ending)) ∙ last)
     ∙ some_is (from_le_bytes w32 (drop (length file - 4) file)) version
     (sym (ap (λ o. o >>= (λ (ended : ℕ × List ℕ). Some ended.0)) (number_at_end w32 file (omega (arith, len, long)))) ∙ told)

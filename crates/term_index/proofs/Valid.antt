@@ -1,5 +1,5 @@
 -- Valid documents have no fault.
-use Rattle.std.proofs.Common.{◌≡◌, ◌<◌, ◌≤◌, ◌+◌, ◌&&◌, ℕ, ◌⊎◌, inl, inr, List, [], ◌∷◌, ◌++◌, length, Bool, true, false, not, Option, Some, None, refl, ap, ◌∙◌, arith}
+use Rattle.std.proofs.Common.{◌≡◌, ◌<◌, ◌+◌, ◌&&◌, ℕ, inl, inr, List, [], ◌∷◌, ◌++◌, length, true, false, not, Option, Some, None, refl, ap, ◌∙◌, arith}
 use Rattle.std.specs.Prelude.{nat_lt, ◌==◌, cond, option_map, slice_get}
 use Rattle.std.specs.List.{All, AllByRecursion, list_all, cons_option, flat_map, enumerate_from}
 use Rattle.std.proofs.lemmas.Bool.{lt-ltb, le-leb}
@@ -10,7 +10,7 @@ use Rattle.term_documents.specs.declared.documents.Doc.{Doc}
 use Rattle.term_documents.specs.declared.faults.Fault.{Fault}
 use Rattle.term_documents.specs.declared.faults.Fault.TheVariants.{BadField, KeyTooLong}
 use Rattle.term_documents.specs.declared.faults.PlacedFault.{PlacedFault}
-use Rattle.term_documents.specs.Documents.{IsValidPair, AreValidDocuments, is_field, is_short, key_length, fault_of, faults_from, first_from, first_fault}
+use Rattle.term_documents.specs.Documents.{IsValidPair, AreValidDocuments, is_field, is_short, key_length, fault_of, faults_from, first_fault}
 
 not_zero : (n : ℕ) → 0 < n → (n == 0) ≡ false
 not_zero n h = elim (eqb_tells n 0) [ inl zero_is ↦ absurd (omega (arith, zero_is.1, h)) | inr other ↦ other.0 ]

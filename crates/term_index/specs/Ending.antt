@@ -13,7 +13,7 @@ use Rattle.term_search.specs.declared.answer.Kind.{Kind}
 use Rattle.term_search.specs.declared.answer.Kind.TheVariants.{Slop, Regex}
 use Rattle.term_search.specs.Leaves.{first_unsupported, has_waiting_leaf}
 use Rattle.term_index.specs.declared.outcome.Outcome.{Outcome}
-use Rattle.term_index.specs.declared.outcome.Outcome.TheVariants.{Done, NotYet, InputTooLong, BadInput, TooManyDocuments, BadField, KeyTooLong, ArenaFull, Query, TooDeep, UnsupportedSlop, UnsupportedRegex, Corrupt, InFault, StoreFault, ReadFault, OutFault, Memory}
+use Rattle.term_index.specs.declared.outcome.Outcome.TheVariants.{Done, NotYet, InputTooLong, BadInput, TooManyDocuments, BadField, KeyTooLong, ArenaFull, Query, TooDeep, UnsupportedSlop, UnsupportedRegex, InFault, StoreFault, ReadFault, OutFault, Memory}
 use Rattle.term_index.specs.Reading.{docs_of}
 use Rattle.term_index.specs.Refusals.{input_limit}
 use Rattle.term_index.specs.Running.{ask_pages}

@@ -1,6 +1,6 @@
 -- What is printed.
-use Rattle.std.specs.Prelude.{ℕ, List, [], ◌∷◌, ◌++◌, decimal, Option, ◌⊎◌, codes}
-use Rattle.std.specs.Io.KnownBytes.{Appends, Keeps}
+use Rattle.std.specs.Prelude.{ℕ, List, [], ◌∷◌, ◌++◌, decimal, Option, codes}
+use Rattle.std.specs.Io.KnownBytes.{Appends}
 use Rattle.owned_bytes.specs.Outside.{AppendsPrefix}
 use Rattle.query_tree.specs.declared.tree.UserInputAst.{UserInputAst}
 use Rattle.query_tree.specs.Json.{json_text}

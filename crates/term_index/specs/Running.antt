@@ -1,5 +1,5 @@
 -- What each command does: its outcome, what was told to it, and what the store or the output tells before and after.
-use Rattle.std.specs.Prelude.{◌≡◌, ◌⊎◌, ℕ, List, Bool, true, false, Option, Some, IfSome}
+use Rattle.std.specs.Prelude.{◌≡◌, ◌⊎◌, ℕ, List, true, false, Option, Some, IfSome}
 use Rattle.std.specs.Io.KnownBytes.{Appends, Keeps}
 use Rattle.owned_bytes.specs.Outside.{AppendsPrefix}
 use Rattle.query_tree.specs.declared.tree.UserInputAst.{UserInputAst}
@@ -15,7 +15,7 @@ use Rattle.term_search.specs.declared.answer.Kind.TheVariants as kind
 use Rattle.term_search.specs.Leaves.{has_waiting_leaf}
 use Rattle.term_search.specs.Searching.{IsTaken, IsSearched, CanBeSearched, IsUnsupported, IsOfLater}
 use Rattle.term_index.specs.declared.outcome.Outcome.{Outcome}
-use Rattle.term_index.specs.declared.outcome.Outcome.TheVariants.{Done, NotYet, InputTooLong, BadInput, TooManyDocuments, BadField, KeyTooLong, ArenaFull, Query, TooDeep, UnsupportedSlop, UnsupportedRegex, Version, Corrupt, Compressed, InFault, StoreFault, ReadFault, OutFault, Memory}
+use Rattle.term_index.specs.declared.outcome.Outcome.TheVariants.{Done, NotYet, InputTooLong, BadInput, Query, TooDeep, UnsupportedSlop, UnsupportedRegex, Version, Corrupt, Compressed, InFault, StoreFault, ReadFault, OutFault, Memory}
 use Rattle.term_index.specs.Commands.{Command, build, search, ask, tree, generate}
 use Rattle.term_index.specs.Printing.{lines, tree_line}
 use Rattle.term_index.specs.Refusals.{Tells, AreKept, Unread, Refuses}

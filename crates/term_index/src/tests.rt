@@ -10,10 +10,12 @@ const TWO: &[u8] =
     b"[{\"title\":\"hello\",\"tag\":[\"a\",\"b\"]},{\"title\":\"hello world\",\"tag\":\"b\"}]";
 
 /// The index of `THREE`.
-const INDEX: &[u8] = b"\x03\x00\x00\x00\x04\x00\x00\x00\x00\x00\x00\x00\x94\x0b\x00\x00\x00\x00\x03\x00\x02\x02\x30\x66\x00\x61\x12\x62\x00\x00\x00\x00\x00\x00\x00\x00\x00\x00\x00\x00\x13\x00\x00\x00\x00\x00\x00\x00\x02\x00\x00\x00\x00\x00\x00\x00\x03\x00\x00\x00";
+const INDEX: &[u8] =
+    b"\x03\x00\x00\x00\x04\x00\x00\x00\x00\x00\x00\x00\x94\x0b\x00\x00\x00\x00\x03\x00\x02\x02\x30\x66\x00\x61\x12\x62\x00\x00\x00\x00\x00\x00\x00\x00\x00\x00\x00\x00\x13\x00\x00\x00\x00\x00\x00\x00\x02\x00\x00\x00\x00\x00\x00\x00\x03\x00\x00\x00";
 
 /// The index of no documents.
-const EMPTY: &[u8] = b"\x00\x00\x00\x00\x00\x00\x00\x00\x00\x00\x00\x00\x00\x00\x00\x00\x00\x00\x00\x00\x00\x00\x00\x00\x04\x00\x00\x00\x00\x00\x00\x00\x00\x00\x00\x00\x00\x00\x00\x00\x03\x00\x00\x00";
+const EMPTY: &[u8] =
+    b"\x00\x00\x00\x00\x00\x00\x00\x00\x00\x00\x00\x00\x00\x00\x00\x00\x00\x00\x00\x00\x00\x00\x00\x00\x04\x00\x00\x00\x00\x00\x00\x00\x00\x00\x00\x00\x00\x00\x00\x00\x03\x00\x00\x00";
 
 /// How a command ended, and what it wrote and printed.
 #[derive(Drop)]
@@ -33,7 +35,7 @@ fn words_of(alloc: Global, texts: &[&str]) -> Result<Vec<Word>, AllocError> {
 }
 
 /// Runs the words over documents and a file.
-fn ended(alloc: Global, words: &[&str], docs: &[u8], file: &[u8]) -> Result<Ended, AllocError> {
+fn end_of(alloc: Global, words: &[&str], docs: &[u8], file: &[u8]) -> Result<Ended, AllocError> {
     let words = words_of(alloc, words)?;
     let mut docs = SliceSource::new(docs);
     let bytes = Vec::from_slice(alloc, file)?;
@@ -59,10 +61,10 @@ fn ended(alloc: Global, words: &[&str], docs: &[u8], file: &[u8]) -> Result<Ende
 fn built(rt: HostRuntime) -> Result<(), Fail> {
     let rows: [(&[u8], &[u8]); 2] = [(THREE, INDEX), (b"[]", EMPTY)];
     for (docs, index) in rows {
-        let ended = ended(rt.alloc(), &["build", "x", "1"], docs, b"")?;
+        let ended = end_of(rt.alloc(), &["build", "x", "1"], docs, b"")?;
         assert_eq!(rt; ended.outcome, Outcome::Done);
         assert_eq!(rt; ended.store.as_slice(), index);
-        assert_eq!(rt; ended.printed.as_slice(), b"");
+        assert!(rt; ended.printed.is_empty());
     }
     Ok(())
 }
@@ -70,13 +72,7 @@ fn built(rt: HostRuntime) -> Result<(), Fail> {
 #[test]
 fn asked(rt: HostRuntime) -> Result<(), Fail> {
     let rows: [(&[u8], &str, &str, Outcome, &[u8]); 20] = [
-        (
-            THREE,
-            "f",
-            "f:\"a\" AND NOT f:\"b\"",
-            Outcome::Done,
-            b"0\n",
-        ),
+        (THREE, "f", "f:\"a\" AND NOT f:\"b\"", Outcome::Done, b"0\n"),
         (THREE, "f", "a AND b", Outcome::Done, b"1\n"),
         (THREE, "g", "f:a OR f:b", Outcome::Done, b"0\n1\n2\n"),
         (THREE, "g", "a OR b", Outcome::Done, b""),
@@ -92,7 +88,13 @@ fn asked(rt: HostRuntime) -> Result<(), Fail> {
         (TWO, "title", "tag:b AND NOT tag:a", Outcome::Done, b"1\n"),
         (TWO, "title", "tag:IN [\"a\" \"c\"]", Outcome::Done, b"0\n"),
         // a term that stands twice
-        (b"[{\"f\":[\"a\",\"a\"]}]", "f", "f:a", Outcome::Done, b"0\n"),
+        (
+            b"[{\"f\":[\"a\",\"a\"]}]",
+            "f",
+            "f:a",
+            Outcome::Done,
+            b"0\n",
+        ),
         // queries that are refused
         (
             TWO,
@@ -115,7 +117,7 @@ fn asked(rt: HostRuntime) -> Result<(), Fail> {
         ),
     ];
     for (docs, field, query, outcome, printed) in rows {
-        let ended = ended(rt.alloc(), &["ask", field, query], docs, b"")?;
+        let ended = end_of(rt.alloc(), &["ask", field, query], docs, b"")?;
         assert_eq!(rt; ended.outcome, outcome, "{query}");
         assert_eq!(rt; ended.printed.as_slice(), printed, "{query}");
     }
@@ -134,7 +136,7 @@ fn trees(rt: HostRuntime) -> Result<(), Fail> {
         ("[-5a TO b]", Outcome::Query, b""),
     ];
     for (query, outcome, printed) in rows {
-        let ended = ended(rt.alloc(), &["tree", query], b"", b"")?;
+        let ended = end_of(rt.alloc(), &["tree", query], b"", b"")?;
         assert_eq!(rt; ended.outcome, outcome, "{query}");
         assert_eq!(rt; ended.printed.as_slice(), printed, "{query}");
     }
@@ -156,11 +158,13 @@ fn nested(alloc: Global, levels: usize) -> Result<String, AllocError> {
 
 #[test]
 fn nesting(rt: HostRuntime) -> Result<(), Fail> {
-    let rows: [(usize, Outcome, &[u8]); 2] =
-        [(128, Outcome::Done, b"0\n1\n"), (129, Outcome::TooDeep, b"")];
+    let rows: [(usize, Outcome, &[u8]); 2] = [
+        (128, Outcome::Done, b"0\n1\n"),
+        (129, Outcome::TooDeep, b""),
+    ];
     for (levels, outcome, printed) in rows {
         let query = nested(rt.alloc(), levels)?;
-        let ended = ended(
+        let ended = end_of(
             rt.alloc(),
             &["search", "x", "f", query.as_str()],
             b"",
@@ -195,7 +199,7 @@ fn damaged(rt: HostRuntime) -> Result<(), Fail> {
         (b"\x03\x00\x00", Outcome::Corrupt),
     ];
     for (file, outcome) in rows {
-        let ended = ended(alloc, &["search", "x", "f", "f:\"a\""], b"", file)?;
+        let ended = end_of(alloc, &["search", "x", "f", "f:\"a\""], b"", file)?;
         assert_eq!(rt; ended.outcome, outcome);
     }
     Ok(())
@@ -223,7 +227,7 @@ fn long_keys(rt: HostRuntime) -> Result<(), Fail> {
     ];
     for (length, more, outcome) in rows {
         let docs = long_term(rt.alloc(), length, more)?;
-        let ended = ended(
+        let ended = end_of(
             rt.alloc(),
             &["build", "x", "1"],
             docs.as_str().as_bytes(),
@@ -266,7 +270,7 @@ fn failed_read(rt: HostRuntime) -> Result<(), Fail> {
     let (first, second, printed) = searched_twice(rt.alloc())?;
     assert_eq!(rt; first, Outcome::ReadFault);
     assert_eq!(rt; second, Outcome::Done);
-    assert_eq!(rt; printed.as_slice(), b"0\n1\n");
+    assert_eq!(rt; printed.as_slice(), b"0\n1\n".as_slice());
     Ok(())
 }
 
@@ -281,7 +285,7 @@ struct Faulty {
 }
 
 /// How a command over `THREE` ends with these faults, and whether the store then has a prefix of the index.
-fn faulty(alloc: Global, row: Faulty) -> Result<(Outcome, bool), AllocError> {
+fn end_with(alloc: Global, row: Faulty) -> Result<(Outcome, bool), AllocError> {
     let words = if row.command == "build" {
         words_of(alloc, &["build", "x", "1"])?
     } else {
@@ -322,7 +326,7 @@ fn faults(rt: HostRuntime) -> Result<(), Fail> {
         row("ask", 0, 0, 2, Outcome::OutFault),
     ];
     for row in rows {
-        let (outcome, is_prefix) = faulty(rt.alloc(), row)?;
+        let (outcome, is_prefix) = end_with(rt.alloc(), row)?;
         assert_eq!(rt; outcome, row.outcome);
         assert_eq!(rt; is_prefix, true);
     }
@@ -371,7 +375,7 @@ fn forms(rt: HostRuntime) -> Result<(), Fail> {
         (&["gen", "18446744073709551615", "0"], 9),
     ];
     for (words, status) in rows {
-        let ended = ended(rt.alloc(), words, b"[]", b"")?;
+        let ended = end_of(rt.alloc(), words, b"[]", b"")?;
         assert_eq!(rt; ended.outcome.status(), status);
     }
     Ok(())

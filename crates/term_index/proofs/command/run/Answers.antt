@@ -1,8 +1,8 @@
 -- The words are the command that was read, so what it does is what the clauses say.
-use Rattle.std.proofs.Common.{◌≡◌, ◌≤◌, ◌<◌, ℕ, List, Bool, true, false, ◌∷◌, [], Option, Some, None, refl, sym, ap, ◌∙◌, subst, IfSome}
+use Rattle.std.proofs.Common.{◌≡◌, ℕ, List, Bool, true, false, ◌∷◌, [], Option, Some, None, ap, ◌∙◌, subst, IfSome}
 use Rattle.term_index.specs.declared.outcome.Outcome.{Outcome}
 use Rattle.term_index.specs.declared.outcome.Outcome.TheVariants.{Done, Version, ReadFault, Memory}
-use Rattle.term_index.specs.Commands.{Command, build, search, ask, tree, generate, IsCommand, OfSearch, reads_documents, reads_file, writes_store, prints}
+use Rattle.term_index.specs.Commands.{Command, build, search, ask, tree, IsCommand, reads_documents, reads_file, writes_store, prints}
 use Rattle.term_index.specs.Shown.{shown}
 use Rattle.term_index.specs.Running.{Told, Does, Builds, Searches, Asks, PrintsTree}
 use Rattle.tantivy_sstable.specs.Opening.{version_of, is_known}

@@ -1,4 +1,4 @@
-use Rattle.std.proofs.Common.{◌≡◌, ◌∙◌, ◌<◌, ◌^◌, sym, arith}
+use Rattle.std.proofs.Common.{◌∙◌, ◌<◌, ◌^◌, sym, arith}
 use Rattle.term_index.proofs.Forms.{no_generate, decimal_once, second_of_two}
 use Rattle.term_index.proofs.command_line.generate_of.Goals as goal
 

@@ -1,4 +1,4 @@
-use Rattle.std.proofs.Common.{◌≡◌, ℕ, List, [], ap, ◌∙◌, subst, sym}
+use Rattle.std.proofs.Common.{ℕ, List, [], ap, ◌∙◌, subst, sym}
 use Rattle.fst_map.specs.Built.{built, IsBuilt}
 use Rattle.fst_map.proofs.Building.{IsBuilt-none, built-none}
 use Rattle.fst_map.proofs.map.MapBuilder.new.Goals as goal
