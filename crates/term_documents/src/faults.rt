@@ -33,7 +33,8 @@ fn has_no_separator(field: &[u8]) -> bool
     field.iter().all(|byte| *byte > 1)
 }
 
-fn is_field(field: &str) -> bool
+/// Whether a pair of this field can be kept: it is not empty, and holds neither byte 0 nor byte 1.
+pub fn is_field(field: &str) -> bool
     ensures value { result ≡ spec.is_field field.now }
     ensures fact { IsTrue result ↔ IsField field.now }
 {

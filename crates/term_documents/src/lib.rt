@@ -10,7 +10,7 @@ mod print;
 
 pub use documents::{Doc, Pair, Pairs};
 pub use expr::{Bound, Expr, expr_depth};
-pub use faults::{Fault, PlacedFault, are_valid, documents_size, first_fault};
+pub use faults::{Fault, PlacedFault, are_valid, documents_size, first_fault, is_field};
 pub use law::printed_means_the_same;
 pub use plain::is_plain;
 pub use print::print_expr;

@@ -52,6 +52,19 @@ AnswersQuery query (Err Corrupt) = CanBeSearched query
 AnswersQuery query (Err (Compressed place)) = CanBeSearched query
 AnswersQuery query (Err Read) = CanBeSearched query
 
+-- what the reading of a query tells of it
+abbrev pub ReadsQuery : List ℕ → Result UserInputAst SearchError → Type 0
+ReadsQuery query (Ok tree) = IsSearched query tree
+ReadsQuery query (Err Memory) = ⊤
+ReadsQuery query (Err (Query error)) = tree_of query ≡ grammar.Refused
+ReadsQuery query (Err TooDeep) = tree_of query ≡ grammar.TooDeep
+ReadsQuery query (Err (Unsupported kind)) = IsUnsupported query kind
+ReadsQuery query (Err NotYet) = (tree : UserInputAst) × IsTaken query tree × (has_waiting_leaf tree ≡ true)
+ReadsQuery query (Err (Version version)) = ⊥
+ReadsQuery query (Err Corrupt) = ⊥
+ReadsQuery query (Err (Compressed place)) = ⊥
+ReadsQuery query (Err Read) = ⊥
+
 -- What an answer tells of a printed plain expression. Each document satisfies the answer's tree exactly where it means the
 -- expression, whatever the default field is. The expression is never refused, and too deep exactly past the greatest depth.
 abbrev pub AnswersExpression : List ℕ → Result Answer SearchError → Type 0
@@ -87,6 +100,26 @@ AnswersFile file query default (Err _) = ⊤
 abbrev pub AnswersTold : Option (List ℕ) → List ℕ → List ℕ → Result Answer SearchError → Type 0
 AnswersTold None query default result = ⊤
 AnswersTold (Some file) query default result = AnswersFile file query default result
+
+-- what the numbers that were found for a tree tell of the file
+abbrev pub FindsNumbers : List ℕ → UserInputAst → List ℕ → Result (List ℕ) SearchError → Type 0
+FindsNumbers file tree default (Ok ids) = CanBeOpened file × ((docs : List Doc) → IsIndexOf file docs → ids ≡ satisfying docs tree default)
+FindsNumbers file tree default (Err NotYet) = (has_waiting_leaf tree ≡ true) ⊎ (is_waiting_file file ≡ true)
+FindsNumbers file tree default (Err (Version version)) = (version_of file ≡ Some version) × (is_known version ≡ false)
+FindsNumbers file tree default (Err Corrupt) = IsDamaged file
+FindsNumbers file tree default (Err (Compressed place)) = IsDamaged file × (is_compressed_at place file ≡ true)
+FindsNumbers file tree default (Err _) = ⊤
+
+abbrev pub FindsNumbersTold : Option (List ℕ) → UserInputAst → List ℕ → Result (List ℕ) SearchError → Type 0
+FindsNumbersTold None tree default result = ⊤
+FindsNumbersTold (Some file) tree default result = FindsNumbers file tree default result
+
+-- no refusal of a query
+abbrev pub IsOfFile : SearchError → Type 0
+IsOfFile (Query error) = ⊥
+IsOfFile TooDeep = ⊥
+IsOfFile (Unsupported kind) = ⊥
+IsOfFile _ = ⊤
 
 -- the told contents are a file that has a table and can be opened
 abbrev pub IsWhole : Option (List ℕ) → Type 0

@@ -1,5 +1,7 @@
 //! What a search answers.
+use index_reading::IndexError;
 use owned_bytes::Ids;
+use std::alloc::AllocError;
 use tantivy_query_grammar::{Error, UserInputAst};
 use thiserror::Error as ErrorText;
 
@@ -46,4 +48,33 @@ pub enum SearchError {
     /// The file failed.
     #[error("the file can't be read")]
     Read,
+}
+
+impl From<AllocError> for SearchError {
+    ghost use Rattle.std.specs.Prelude.{◌≡◌};
+    ghost use Rattle.term_search.specs.declared.answer.SearchError.TheVariants.{Memory};
+
+    ghost from_gives = { λ _ e. e ≡ Memory };
+
+    fn from(_: AllocError) -> Self {
+        SearchError::Memory
+    }
+}
+
+impl From<IndexError> for SearchError {
+    ghost use Rattle.std.specs.Prelude.{◌≡◌};
+    ghost use Rattle.term_search.specs.Members.{error_of_index};
+
+    ghost from_gives = { λ error e. e ≡ error_of_index error };
+
+    fn from(error: IndexError) -> Self {
+        match error {
+            IndexError::Memory => SearchError::Memory,
+            IndexError::Read => SearchError::Read,
+            IndexError::Corrupt => SearchError::Corrupt,
+            IndexError::Compressed(place) => SearchError::Compressed(place),
+            IndexError::Version(version) => SearchError::Version(version),
+            IndexError::NotYet => SearchError::NotYet,
+        }
+    }
 }

@@ -1,0 +1,107 @@
+-- What a search answers, by what its steps answer.
+use Rattle.std.proofs.Common.{◌≡◌, ◌≢◌, ◌∙◌, sym, ap, subst, refl, ℕ, ◌+◌, ◌*◌, ◌<◌, ◌≤◌, Bool, true, false, List, [], ◌∷◌, length, Option, Some, None, Result, Ok, Err, ◌⊎◌, inl, inr, arith, filter, map, length-append}
+use Rattle.std.specs.Prelude.{unwrap_or, bytes_eq, suc}
+use Rattle.std.specs.List.{flat_map}
+use Rattle.owned_bytes.specs.Outside.{RisesAtMost}
+use Rattle.query_tree.specs.declared.tree.UserInputLeaf.{UserInputLeaf}
+use Rattle.query_tree.specs.declared.tree.UserInputLeaf.TheVariants as leaf
+use Rattle.term_documents.specs.Documents.{is_field}
+use Rattle.index_file.specs.Search.{asked, units, lookups_of, leaves_of}
+use Rattle.term_search.specs.declared.answer.SearchError.{SearchError}
+use Rattle.term_search.specs.declared.answer.SearchError.TheVariants.{Memory, Query, TooDeep, Unsupported, NotYet, Version, Corrupt, Compressed, Read}
+use Rattle.std.specs.Str.{IsUtf8}
+use Rattle.common_bitset.specs.Numbers.{Numbers, rising}
+use Rattle.query_tree.specs.declared.answer.ParseError.TheVariants as parse
+use Rattle.query_tree.specs.declared.tree.UserInputAst.{UserInputAst}
+use Rattle.query_tree.specs.Answer as grammar
+use Rattle.query_tree.specs.Answer.{Answer, tree_of}
+use Rattle.term_documents.specs.declared.documents.Doc.{Doc}
+use Rattle.term_documents.specs.Documents.{numbers_where}
+use Rattle.term_documents.specs.Postings.{Postings, gather}
+use Rattle.term_documents.specs.Satisfies.{satisfies, Lookup, lookups_of_leaf}
+use Rattle.term_documents.specs.Law.{satisfying}
+use Rattle.term_documents.proofs.PrintedLaw.{numbers_mean, printed_is_read}
+use Rattle.index_file.specs.IndexFile.{table_of, IsIndexOf}
+use Rattle.index_file.specs.Opening.{CanBeOpened, IsDamaged}
+use Rattle.index_reading.specs.declared.open.OpenIndex.{OpenIndex}
+use Rattle.index_reading.specs.Opened.{postings_told, postings_in}
+use Rattle.index_reading.specs.Opening.{OpensTold, HasOpened}
+use Rattle.term_search.specs.Members.{HasThose, Finds}
+use Rattle.term_search.specs.Searching.{FindsNumbersTold, ReadsQuery, IsSearched, AnswersExpression, AnswersTold, FindsDocuments, ReadsWithin}
+use Rattle.term_search.proofs.Leaf.{told_documents, gathered_documents}
+use Rattle.term_search.proofs.Posted.{rising_those}
+
+pub found_numbers_told : (before now : Option (List ℕ)) (index : OpenIndex) (tree : UserInputAst) (default : List ℕ) (documents : ℕ) (elements : Numbers) (ids : List ℕ)
+    → OpensTold before (Ok index) → now ≡ before → Finds (postings_told index now) (λ doc. satisfies doc tree default) elements → documents ≡ index.documents → ids ≡ rising documents elements
+    → FindsNumbersTold before tree default (Ok ids)
+found_numbers_told None now index tree default documents elements ids opens same finds over is = tt
+found_numbers_told (Some file) now index tree default documents elements ids opens same finds over is =
+    (opens.readable, λ docs indexed.
+      let told : postings_told index now ≡ Some (gather docs) = ap (postings_told index) same ∙ opens.postings ∙ indexed.table in
+      let many : documents ≡ length docs = over ∙ sym (told_documents now index (gather docs) told) ∙ gathered_documents docs in
+      is ∙ ap (λ n. rising n elements) many ∙ rising_those docs (λ doc. satisfies doc tree default) elements (finds.those docs indexed.valid told))
+
+-- ---- the whole answer
+
+pub printed_refused : (query : List ℕ) (e : SearchError) → IsUtf8 query → ReadsQuery query (Err e) → AnswersExpression query (Err e)
+printed_refused query Memory utf8 h = tt
+printed_refused query (Query error) utf8 h = printed_is_read query (Err (parse.Refused error)) utf8 h
+printed_refused query TooDeep utf8 h = printed_is_read query (Err parse.TooDeep) utf8 h
+printed_refused query (Unsupported kind) utf8 h = tt
+printed_refused query NotYet utf8 h = tt
+printed_refused query (Version version) utf8 h = tt
+printed_refused query Corrupt utf8 h = tt
+printed_refused query (Compressed place) utf8 h = tt
+printed_refused query Read utf8 h = tt
+
+pub printed_answered : (query ids : List ℕ) (tree : UserInputAst) → IsUtf8 query → IsSearched query tree → AnswersExpression query (Ok (record { tree = tree; ids = ids }))
+printed_answered query ids tree utf8 searched = printed_is_read query (Ok tree) utf8 searched.taken.tree_is
+
+pub answers_told : (contents : Option (List ℕ)) (query default ids : List ℕ) (tree : UserInputAst) → IsUtf8 query → IsSearched query tree → FindsNumbersTold contents tree default (Ok ids)
+    → AnswersTold contents query default (Ok (record { tree = tree; ids = ids }))
+answers_told None query default ids tree utf8 searched found = tt
+answers_told (Some file) query default ids tree utf8 searched found = record {
+  opened = found.0;
+  satisfying = found.1;
+  meaning = λ docs indexed. numbers_mean docs query default ids tree utf8 searched.taken.tree_is (found.1 docs indexed);
+}
+
+-- ---- how much is asked
+
+filter-le : {A : Type 0} (test : A → Bool) (xs : List A) → length (filter test xs) ≤ length xs
+filter-le test [] = omega arith
+filter-le test (x ∷ xs) = by (filter-le test xs) (test x) refl
+  where
+    by : length (filter test xs) ≤ length xs → (b : Bool) → test x ≡ b → length (filter test (x ∷ xs)) ≤ length (x ∷ xs)
+    by more true e = rw e (omega (arith, more))
+    by more false e = rw e (omega (arith, more))
+
+set_units : {A B : Type 0} (f g : A → B) (xs : List A) → length (map f xs) ≡ length (map g xs)
+set_units f g [] = refl
+set_units f g (x ∷ xs) = ap (λ n. suc n) (set_units f g xs)
+
+leaf_units : (default : List ℕ) (l : UserInputLeaf) → length (lookups_of_leaf default l) ≡ length (lookups_of_leaf [] l)
+unfolding lookups_of_leaf
+leaf_units default (leaf.Literal literal) = refl
+leaf_units default leaf.All = refl
+leaf_units default (leaf.Range field lower upper) = refl
+leaf_units default (leaf.Set field elements) = set_units (λ element. record { field = unwrap_or field default; takes = λ term. bytes_eq term element }) (λ element. record { field = unwrap_or field []; takes = λ term. bytes_eq term element }) elements
+leaf_units default (leaf.Exists field) = refl
+leaf_units default (leaf.Regex field pattern) = refl
+
+leaves_units : (default : List ℕ) (leaves : List UserInputLeaf) → length (flat_map (lookups_of_leaf default) leaves) ≡ length (flat_map (lookups_of_leaf []) leaves)
+leaves_units default [] = refl
+leaves_units default (l ∷ leaves) =
+    length-append (lookups_of_leaf default l) (flat_map (lookups_of_leaf default) leaves)
+    ∙ ap (λ n. n + length (flat_map (lookups_of_leaf default) leaves)) (leaf_units default l) ∙ ap (λ n. length (lookups_of_leaf [] l) + n) (leaves_units default leaves)
+    ∙ sym (length-append (lookups_of_leaf [] l) (flat_map (lookups_of_leaf []) leaves))
+
+asked-units : (tree : UserInputAst) (default : List ℕ) → length (asked tree default) ≤ units tree
+asked-units tree default = omega (arith, filter-le (λ (wanted : Lookup). is_field wanted.field) (lookups_of tree default), leaves_units default (leaves_of tree))
+
+same_tree : (query : List ℕ) (a b : UserInputAst) → tree_of query ≡ grammar.Tree a → tree_of query ≡ grammar.Tree b → a ≡ b
+same_tree query a b h k = (let e : grammar.Tree a ≡ grammar.Tree b = sym h ∙ k in cc)
+
+pub reads_units : (query default : List ℕ) (tree : UserInputAst) (before now : ℕ) → IsSearched query tree → RisesAtMost before now (4 + 2 * length (asked tree default)) → ReadsWithin query before now
+reads_units query default tree before now searched rises = λ other is.
+    subst (λ t. now ≤ before + (4 + 2 * units t)) (same_tree query tree other searched.taken.tree_is is) (omega (arith, rises.bound, asked-units tree default))
