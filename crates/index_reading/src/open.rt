@@ -40,6 +40,7 @@ impl OpenIndex {
         ensures cause { HasCause (H.faults handle.old) (H.faults handle.new) (result ≡ Err IndexError.Read) }
         ensures reads { RisesAtMost (H.reads handle.old) (H.reads handle.new) 4 }
         ensures fetched { FetchesOpening (H.contents handle.old) (H.fetched handle.old) (H.fetched handle.new) }
+        ensures fetched_rise { H.fetched handle.old ≤ H.fetched handle.new }
     {
         let size = handle.len();
         if size < 4 {
@@ -169,6 +170,7 @@ fn open_table<H: FileHandle>(
     ensures cause { HasCause (H.faults handle.old) (H.faults handle.new) (result ≡ Err IndexError.Read) }
     ensures reads { RisesAtMost (H.reads handle.old) (H.reads handle.new) 2 }
     ensures fetched { Told (H.contents handle.old) (FetchesTable (H.fetched handle.old) (H.fetched handle.new)) }
+    ensures fetched_rise { H.fetched handle.old ≤ H.fetched handle.new }
 {
     let size = handle.len();
     match Dictionary::<RangeSSTable>::open(alloc, handle, part_from(start, size)) {

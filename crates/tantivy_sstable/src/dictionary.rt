@@ -89,6 +89,7 @@ impl<S: SSTable> Dictionary<S> {
         ensures cause { HasCause (H.faults handle.old) (H.faults handle.new) (result ≡ Err SstError.Read) }
         ensures reads { RisesAtMost (H.reads handle.old) (H.reads handle.new) 2 }
         ensures fetched { FetchesIndex (H.contents handle.old) file (H.fetched handle.old) (H.fetched handle.new) }
+        ensures fetched_rise { H.fetched handle.old ≤ H.fetched handle.new }
     {
         let range = file.range();
         let len = range.end - range.start;

@@ -55,3 +55,6 @@ rises_again before middle now i n first second = record {
 
 pub still_later : (before middle now : ℕ) (P : Type 0) → HasCause before middle ⊥ → HasCause middle now P → HasCause before now ⊥
 still_later before middle now P first second = record { later = omega (arith, first.later, second.later); rose = λ h. absurd h }
+
+pub later_again : (before middle now : ℕ) → before ≤ middle → middle ≤ now → before ≤ now
+later_again before middle now first second = omega arith

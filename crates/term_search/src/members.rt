@@ -1,5 +1,5 @@
 //! The set of the documents that satisfy a tree.
-ghost use Rattle.std.specs.Prelude.{Some, false, ◌≡◌, ◌*◌, ◌++◌, [], ◌∷◌, length, unwrap_or, IfOk, IfErr, IfSome, OnOk, OnErr, Err, if◌then◌else◌};
+ghost use Rattle.std.specs.Prelude.{◌≤◌, Some, false, ◌≡◌, ◌*◌, ◌++◌, [], ◌∷◌, length, unwrap_or, IfOk, IfErr, IfSome, OnOk, OnErr, Err, if◌then◌else◌};
 ghost use Rattle.std.specs.List.{list_any};
 ghost use Rattle.owned_bytes.specs.Outside.{HasCause, RisesAtMost};
 ghost use Rattle.index_file.specs.Search.{asked};
@@ -47,6 +47,7 @@ fn numbers_at<H: FileHandle>(
     ensures size { H.size file.new ≡ H.size file.old }
     ensures cause { HasCause (H.faults file.old) (H.faults file.new) (result ≡ Err SearchError.Read) }
     ensures reads { RisesAtMost (H.reads file.old) (H.reads file.new) 2 }
+    ensures fetched { H.fetched file.old ≤ H.fetched file.new }
 {
     let key = key_of(alloc, field, term)?;
     match index.numbers_at(alloc, file, key.as_slice()) {
@@ -73,6 +74,7 @@ fn add_term<H: FileHandle>(
     ensures size { H.size file.new ≡ H.size file.old }
     ensures cause { HasCause (H.faults file.old) (H.faults file.new) (result ≡ Err SearchError.Read) }
     ensures reads { RisesAtMost (H.reads file.old) (H.reads file.new) (if spec.is_field field.now then 2 else 0) }
+    ensures fetched { H.fetched file.old ≤ H.fetched file.new }
 {
     if !is_field(field) {
         return Ok(());
@@ -102,6 +104,7 @@ fn add_terms<H: FileHandle>(
     ensures size { H.size file.new ≡ H.size file.old }
     ensures cause { HasCause (H.faults file.old) (H.faults file.new) (result ≡ Err SearchError.Read) }
     ensures reads { RisesAtMost (H.reads file.old) (H.reads file.new) (length terms.now * (if spec.is_field field.now then 2 else 0)) }
+    ensures fetched { H.fetched file.old ≤ H.fetched file.new }
 {
     for term in terms {
         match add_term(alloc, file, index, field, term.as_str(), members) {
@@ -136,6 +139,7 @@ fn literal_members<H: FileHandle>(
     ensures size { H.size file.new ≡ H.size file.old }
     ensures cause { HasCause (H.faults file.old) (H.faults file.new) (result ≡ Err SearchError.Read) }
     ensures reads { RisesAtMost (H.reads file.old) (H.reads file.new) (2 * length (asked_by default_field.now (Literal literal.now ∷ []))) }
+    ensures fetched { H.fetched file.old ≤ H.fetched file.new }
 {
     if literal.prefix {
         return Err(SearchError::NotYet);
@@ -166,6 +170,7 @@ fn set_members<H: FileHandle>(
     ensures size { H.size file.new ≡ H.size file.old }
     ensures cause { HasCause (H.faults file.old) (H.faults file.new) (result ≡ Err SearchError.Read) }
     ensures reads { RisesAtMost (H.reads file.old) (H.reads file.new) (length elements.now * (if spec.is_field field.now then 2 else 0)) }
+    ensures fetched { H.fetched file.old ≤ H.fetched file.new }
 {
     let mut members = DocSet::empty(index.documents);
     match add_terms(alloc, file, index, field, elements, &mut members) {
@@ -189,6 +194,7 @@ fn leaf_members<H: FileHandle>(
     ensures size { H.size file.new ≡ H.size file.old }
     ensures cause { HasCause (H.faults file.old) (H.faults file.new) (result ≡ Err SearchError.Read) }
     ensures reads { RisesAtMost (H.reads file.old) (H.reads file.new) (2 * length (asked_by default_field.now (leaf.now ∷ []))) }
+    ensures fetched { H.fetched file.old ≤ H.fetched file.new }
 {
     match leaf {
         UserInputLeaf::Literal(literal) => {
@@ -248,6 +254,7 @@ pub fn tree_members<H: FileHandle>(
     ensures size { H.size file.new ≡ H.size file.old }
     ensures cause { HasCause (H.faults file.old) (H.faults file.new) (result ≡ Err SearchError.Read) }
     ensures reads { RisesAtMost (H.reads file.old) (H.reads file.new) (2 * length (asked tree.now default_field.now)) }
+    ensures fetched { H.fetched file.old ≤ H.fetched file.new }
 {
     match tree {
         UserInputAst::Clause(pairs) => {
@@ -276,6 +283,7 @@ fn clause_members<H: FileHandle>(
     ensures size { H.size file.new ≡ H.size file.old }
     ensures cause { HasCause (H.faults file.old) (H.faults file.new) (result ≡ Err SearchError.Read) }
     ensures reads { RisesAtMost (H.reads file.old) (H.reads file.new) (2 * length (asked_by default_field.now (leaves_among pairs.now))) }
+    ensures fetched { H.fetched file.old ≤ H.fetched file.new }
 {
     let mut joined = JoinedSets::new(index.documents);
     for pair in pairs {

@@ -6,7 +6,7 @@ use Rattle.term_documents.specs.declared.documents.Doc.{Doc}
 use Rattle.term_documents.specs.Satisfies.{satisfies, satisfies_clause, satisfies_leaf}
 use Rattle.term_search.specs.Leaves.{is_waiting_leaf}
 use Rattle.term_search.specs.Members.{answered}
-use Rattle.term_search.proofs.Turns.{still_later}
+use Rattle.term_search.proofs.Turns.{still_later, later_again}
 use Rattle.term_search.proofs.Leaf.{finds_same_ok}
 use Rattle.term_search.proofs.Trees.{clause_means, boost_means, leaf_means, clause_leaves, boost_leaves, leaf_leaves, leaf_waits, same_error, same_reads, joins_next, joined_finds, reads_next, reads_ended, error_among}
 use Rattle.term_search.proofs.members.+members.Goals as goal
@@ -29,6 +29,7 @@ clause_members-loop-pair-preserved g t c = record {
   size = c.tree_members.ensures.size ∙ c.loop-pair.invariant.size;
   cause = still_later _ _ _ _ c.loop-pair.invariant.cause c.tree_members.ensures.cause;
   reads = reads_next c.args.default_field.now c.args.pairs.now c.loop-pair.pair-index c.pair-item.result _ _ _ c.loop-pair-test.true c.pair-item.is c.loop-pair.invariant.reads c.tree_members.ensures.reads;
+  fetched = later_again _ _ _ c.loop-pair.invariant.fetched c.tree_members.ensures.fetched;
 }
 
 pub clause_members-returns-clause-found : goal.clause_members-returns-clause-found

@@ -1,6 +1,6 @@
 use Rattle.std.proofs.Common.{◌∙◌, rules, arith}
 use Rattle.term_documents.specs.Documents.{holds}
-use Rattle.term_search.proofs.Turns.{adds_next, adds_all, rises_again, still_later}
+use Rattle.term_search.proofs.Turns.{adds_next, adds_all, rises_again, still_later, later_again}
 use Rattle.term_search.proofs.members.add_terms.Goals as goal
 
 pub loop-term-preserved : goal.loop-term-preserved
@@ -11,6 +11,7 @@ loop-term-preserved g c = record {
   size = c.add_term.ensures.size ∙ c.loop-term.invariant.size;
   cause = still_later _ _ _ _ c.loop-term.invariant.cause c.add_term.ensures.cause;
   reads = rises_again _ _ _ c.loop-term.term-index _ c.loop-term.invariant.reads c.add_term.ensures.reads;
+  fetched = later_again _ _ _ c.loop-term.invariant.fetched c.add_term.ensures.fetched;
 }
 
 pub returns-clause-adds : goal.returns-clause-adds

@@ -1,4 +1,4 @@
-use Rattle.std.proofs.Common.{◌≡◌, ◌*◌, take}
+use Rattle.std.proofs.Common.{◌≡◌, ◌≤◌, ◌*◌, take}
 use Rattle.std.specs.Prelude.{if◌then◌else◌}
 use Rattle.std.specs.List.{list_any}
 use Rattle.owned_bytes.specs.Outside.{HasCause, RisesAtMost}
@@ -15,4 +15,5 @@ invariant-loop-term g l = record {
   size : g.H.HasLen.size l.file ≡ g.H.HasLen.size l.initial.file;
   cause : HasCause (g.H.FileHandle.faults l.initial.file) (g.H.FileHandle.faults l.file) ⊥;
   reads : RisesAtMost (g.H.FileHandle.reads l.initial.file) (g.H.FileHandle.reads l.file) (l.term-index * (if is_field l.field then 2 else 0));
+  fetched : g.H.FileHandle.fetched l.initial.file ≤ g.H.FileHandle.fetched l.file;
 }
