@@ -35,11 +35,13 @@ pub found_numbers_told : (before now : Option (List ℕ)) (index : OpenIndex) (t
     → OpensTold before (Ok index) → now ≡ before → Finds (postings_told index now) (λ doc. satisfies doc tree default) elements → documents ≡ index.documents → ids ≡ rising documents elements
     → FindsNumbersTold before tree default (Ok ids)
 found_numbers_told None now index tree default documents elements ids opens same finds over is = tt
-found_numbers_told (Some file) now index tree default documents elements ids opens same finds over is =
-    (opens.readable, λ docs indexed.
+found_numbers_told (Some file) now index tree default documents elements ids opens same finds over is = (
+  opens.readable,
+  λ docs indexed.
       let told : postings_told index now ≡ Some (gather docs) = ap (postings_told index) same ∙ opens.postings ∙ indexed.table in
       let many : documents ≡ length docs = over ∙ sym (told_documents now index (gather docs) told) ∙ gathered_documents docs in
-      is ∙ ap (λ n. rising n elements) many ∙ rising_those docs (λ doc. satisfies doc tree default) elements (finds.those docs indexed.valid told))
+      is ∙ ap (λ n. rising n elements) many ∙ rising_those docs (λ doc. satisfies doc tree default) elements (finds.those docs indexed.valid told),
+)
 
 -- ---- the whole answer
 

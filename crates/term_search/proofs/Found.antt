@@ -81,7 +81,7 @@ not_held : (field : List ℕ) (test : List ℕ → Bool) (pairs : List Pair) →
 not_held field test [] never valid = refl
 not_held field test (p ∷ pairs) never valid =
     ap (λ b. b || list_any (λ (pair : Pair). bytes_eq pair.field field && test pair.term) pairs)
-        (and_no (bytes_eq p.field field) (test p.term) (λ same. never (subst IsField ((bytes_decides p.field field).0 same) (let first : IsValidPair p = valid 0 p (omega arith) in first.field))))
+    (and_no (bytes_eq p.field field) (test p.term) (λ same. never (subst IsField ((bytes_decides p.field field).0 same) (let first : IsValidPair p = valid 0 p (omega arith) in first.field))))
     ∙ not_held field test pairs never (λ k d less. valid (suc k) d (omega arith))
 
 pub posts_nowhere : (told : Option Postings) (field term : List ℕ) → (IsField field → ⊥) → Posts told (λ doc. holds doc field term) []

@@ -124,7 +124,7 @@ unfolding satisfies_leaf lookups_of_leaf
 slop_holds doc default l slop =
     or_false (holds_where doc (unwrap_or l.field_name default) (takes_literal l))
     ∙ never_held (unwrap_or l.field_name default) (takes_literal l) doc.pairs
-        (λ term. ap (λ b. b && (if l.prefix then starts_with nat_eq term l.phrase else bytes_eq term l.phrase)) (no_zero l.slop slop))
+    (λ term. ap (λ b. b && (if l.prefix then starts_with nat_eq term l.phrase else bytes_eq term l.phrase)) (no_zero l.slop slop))
 
 any-map : {A B : Type 0} (test : B → Bool) (f : A → B) (xs : List A) → list_any test (map f xs) ≡ list_any (λ x. test (f x)) xs
 any-map test f [] = refl
@@ -185,9 +185,9 @@ set_asks default field own elements before now is rises = record {
   later = rises.later;
   bound =
       let own_field : length elements * (if is_field field then 2 else 0) ≤ 2 * length (filter (λ (wanted : Lookup). is_field wanted.field) (map (each_in (unwrap_or own default)) elements)) =
-        subst (λ f. length elements * (if is_field f then 2 else 0) ≤ 2 * length (filter (λ (wanted : Lookup). is_field wanted.field) (map (each_in (unwrap_or own default)) elements))) (sym is) (asks_each (unwrap_or own default) elements) in
+      subst (λ f. length elements * (if is_field f then 2 else 0) ≤ 2 * length (filter (λ (wanted : Lookup). is_field wanted.field) (map (each_in (unwrap_or own default)) elements))) (sym is) (asks_each (unwrap_or own default) elements) in
       let whole : length (asked_by default (leaf.Set own elements ∷ [])) ≡ length (filter (λ (wanted : Lookup). is_field wanted.field) (map (each_in (unwrap_or own default)) elements)) =
-        ap (λ ws. length (filter (λ (wanted : Lookup). is_field wanted.field) ws)) (nothing (map (each_in (unwrap_or own default)) elements)) in
+      ap (λ ws. length (filter (λ (wanted : Lookup). is_field wanted.field) ws)) (nothing (map (each_in (unwrap_or own default)) elements)) in
       omega (arith, rises.bound, own_field, whole);
 }
 

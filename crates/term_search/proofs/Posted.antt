@@ -75,8 +75,10 @@ rising_from k s test (d ∷ docs) each = by (rising_from (k + 1) s test docs lat
   where
     first : contains s k ≡ test d
     first = ap (contains s) (let e : k ≡ k + 0 = omega arith in e) ∙ each 0 d refl
+
     later : (i : ℕ) (doc : Doc) → slice_get docs i ≡ Some doc → contains s ((k + 1) + i) ≡ test doc
     later i doc h = ap (contains s) (let e : (k + 1) + i ≡ k + suc i = omega arith in e) ∙ each (suc i) doc h
+
     by : filter (contains s) (range_with_len (k + 1) (length docs)) ≡ numbers_from (k + 1) test docs → contains s k ≡ test d → (t : Bool) → test d ≡ t
         → filter (contains s) (range_with_len k (length (d ∷ docs))) ≡ numbers_from k test (d ∷ docs)
     by more here true e = rw (here, e) (ap (λ ns. k ∷ ns) more)
@@ -136,7 +138,7 @@ pairs_hold : (field term : List ℕ) (pairs : List Pair) → HasNoZero field →
 pairs_hold field term [] own valid = refl
 pairs_hold field term (p ∷ pairs) own valid =
     ap (λ b. b || list_any (λ pair. is_same (field ++ 0 ∷ term) (key_of pair)) pairs)
-        (let first : IsValidPair p = valid 0 p (omega arith) in pair_same field term p own first.field.no_separator)
+    (let first : IsValidPair p = valid 0 p (omega arith) in pair_same field term p own first.field.no_separator)
     ∙ ap (λ b. (bytes_eq p.field field && bytes_eq p.term term) || b) (pairs_hold field term pairs own (λ k d less. valid (suc k) d (omega arith)))
 
 -- ---- the keys of documents

@@ -116,10 +116,10 @@ asked_next default pairs i pair less is =
 asked_front : (default : List ℕ) (pairs : List (Option Occur × UserInputAst)) (n : ℕ) → length (asked_by default (leaves_among (take n pairs))) ≤ length (asked_by default (leaves_among pairs))
 asked_front default pairs n =
     let whole : length (asked_by default (leaves_among pairs)) ≡ length (asked_by default (leaves_among (take n pairs))) + length (asked_by default (leaves_among (drop n pairs))) =
-      ap (λ ps. length (asked_by default (leaves_among ps))) (sym (take-append-drop n pairs))
-      ∙ ap (λ ls. length (asked_by default ls)) (flat_map-append (λ (p : Option Occur × UserInputAst). leaves_of p.1) (take n pairs) (drop n pairs))
-      ∙ ap (λ (ws : List Lookup). length ws) (asked-append default (leaves_among (take n pairs)) (leaves_among (drop n pairs)))
-      ∙ length-append (asked_by default (leaves_among (take n pairs))) (asked_by default (leaves_among (drop n pairs))) in
+    ap (λ ps. length (asked_by default (leaves_among ps))) (sym (take-append-drop n pairs))
+    ∙ ap (λ ls. length (asked_by default ls)) (flat_map-append (λ (p : Option Occur × UserInputAst). leaves_of p.1) (take n pairs) (drop n pairs))
+    ∙ ap (λ (ws : List Lookup). length ws) (asked-append default (leaves_among (take n pairs)) (leaves_among (drop n pairs)))
+    ∙ length-append (asked_by default (leaves_among (take n pairs))) (asked_by default (leaves_among (drop n pairs))) in
     omega (arith, whole)
 
 pub reads_next : (default : List ℕ) (pairs : List (Option Occur × UserInputAst)) (i : ℕ) (pair : Option Occur × UserInputAst) (before middle now : ℕ) → i < length pairs → pair ≡ get_or pairs i pair
@@ -166,4 +166,4 @@ pub error_among : (index : OpenIndex) (before now : Option (List ℕ)) (pairs : 
     → IsSearchError before (postings_told index before) (list_any is_waiting_leaf (leaves_among pairs)) error
 error_among index before now pairs i pair error same less is h =
     weaker before (postings_told index before) (has_waiting_leaf pair.1) (list_any is_waiting_leaf (leaves_among pairs)) error (waits_among pairs i pair less is)
-      (subst (λ c. IsSearchError c (postings_told index c) (has_waiting_leaf pair.1) error) same h)
+    (subst (λ c. IsSearchError c (postings_told index c) (has_waiting_leaf pair.1) error) same h)

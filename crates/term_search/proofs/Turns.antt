@@ -32,10 +32,10 @@ adds_next index before now test terms i term item old middle new same less is sh
       ∙ ap (λ b. b || test doc term) (first.those docs valid told k doc at)
       ∙ or_assoc (contains old k) (list_any (test doc) (take i terms)) (test doc term)
       ∙ ap (λ b. contains old k || b)
-          (ap (λ t. list_any (test doc) (take i terms) || test doc t) shown
-          ∙ ap (λ b. list_any (test doc) (take i terms) || b) (sym (or_false (test doc item)))
-          ∙ sym (list_any-append (test doc) (take i terms) (item ∷ []))
-          ∙ ap (list_any (test doc)) (sym (one_more terms i item less is)));
+      (ap (λ t. list_any (test doc) (take i terms) || test doc t) shown
+      ∙ ap (λ b. list_any (test doc) (take i terms) || b) (sym (or_false (test doc item)))
+      ∙ sym (list_any-append (test doc) (take i terms) (item ∷ []))
+      ∙ ap (list_any (test doc)) (sym (one_more terms i item less is)));
 }
 
 pub adds_all : (index : OpenIndex) (contents : Option (List ℕ)) (test : Doc → List ℕ → Bool) (terms : List (List ℕ)) (i : ℕ) (old new : Numbers) → length terms ≤ i

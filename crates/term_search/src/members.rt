@@ -149,7 +149,14 @@ fn literal_members<H: FileHandle>(
         return Ok(members);
     }
     let field = field_or(&literal.field_name, default_field);
-    match add_term(alloc, file, index, field, literal.phrase.as_str(), &mut members) {
+    match add_term(
+        alloc,
+        file,
+        index,
+        field,
+        literal.phrase.as_str(),
+        &mut members,
+    ) {
         Ok(()) => Ok(members),
         Err(error) => Err(error),
     }

@@ -18,7 +18,7 @@ clause_members-returns-in-Err-clause-error g t c =
 pub clause_members-returns-in-Err-clause-reads : goal.clause_members-returns-in-Err-clause-reads
 clause_members-returns-in-Err-clause-reads g t c =
     reads_ended c.args.default_field.now c.args.pairs.now _ _ _
-      (reads_next c.args.default_field.now c.args.pairs.now c.loop-pair.pair-index c.pair-item.result _ _ _ c.loop-pair-test.true c.pair-item.is c.loop-pair.invariant.reads c.tree_members.ensures.reads)
+    (reads_next c.args.default_field.now c.args.pairs.now c.loop-pair.pair-index c.pair-item.result _ _ _ c.loop-pair-test.true c.pair-item.is c.loop-pair.invariant.reads c.tree_members.ensures.reads)
 
 pub clause_members-loop-pair-preserved : goal.clause_members-loop-pair-preserved
 clause_members-loop-pair-preserved g t c = record {
@@ -35,12 +35,12 @@ clause_members-loop-pair-preserved g t c = record {
 pub clause_members-returns-clause-found : goal.clause_members-returns-clause-found
 clause_members-returns-clause-found g t c =
     joined_finds c.args.index.now _ c.args.default_field.now c.args.pairs.now c.loop-pair.pair-index c.loop-pair.joined _ c.loop-pair-test.false c.loop-pair.invariant.over
-      (ap (λ (s : Subset). s.elements) c.into_set.ensures) c.loop-pair.invariant.joins
+    (ap (λ (s : Subset). s.elements) c.into_set.ensures) c.loop-pair.invariant.joins
 
 pub tree_members-returns-in-Clause-clause-found : goal.tree_members-returns-in-Clause-clause-found
 tree_members-returns-in-Clause-clause-found g t c =
     finds_same_ok _ (λ doc. satisfies_clause (answered doc c.args.default_field.now c.as_slice.result.now)) (λ doc. satisfies doc c.args.tree.now c.args.default_field.now) _
-      (λ doc. clause_means doc c.args.default_field.now c.args.tree.now c.in-Clause.pairs c.as_slice.result.now c.in-Clause.is c.as_slice.ensures) c.clause_members.ensures.found
+    (λ doc. clause_means doc c.args.default_field.now c.args.tree.now c.in-Clause.pairs c.as_slice.result.now c.in-Clause.is c.as_slice.ensures) c.clause_members.ensures.found
 
 pub tree_members-returns-in-Clause-clause-error : goal.tree_members-returns-in-Clause-clause-error
 tree_members-returns-in-Clause-clause-error g t c =
@@ -53,7 +53,7 @@ tree_members-returns-in-Clause-clause-reads g t c =
 pub tree_members-returns-in-Boost-clause-found : goal.tree_members-returns-in-Boost-clause-found
 tree_members-returns-in-Boost-clause-found g t c =
     finds_same_ok _ (λ doc. satisfies doc c.get.result.now c.args.default_field.now) (λ doc. satisfies doc c.args.tree.now c.args.default_field.now) _
-      (λ doc. boost_means doc c.args.default_field.now c.args.tree.now _ c.get.result.now _ c.in-Boost.is c.get.ensures) c.tree_members.ensures.found
+    (λ doc. boost_means doc c.args.default_field.now c.args.tree.now _ c.get.result.now _ c.in-Boost.is c.get.ensures) c.tree_members.ensures.found
 
 pub tree_members-returns-in-Boost-clause-error : goal.tree_members-returns-in-Boost-clause-error
 tree_members-returns-in-Boost-clause-error g t c =
@@ -66,7 +66,7 @@ tree_members-returns-in-Boost-clause-reads g t c =
 pub tree_members-returns-in-Leaf-clause-found : goal.tree_members-returns-in-Leaf-clause-found
 tree_members-returns-in-Leaf-clause-found g t c =
     finds_same_ok _ (λ doc. satisfies_leaf doc c.args.default_field.now c.get-in-Leaf.result.now) (λ doc. satisfies doc c.args.tree.now c.args.default_field.now) _
-      (λ doc. leaf_means doc c.args.default_field.now c.args.tree.now _ c.get-in-Leaf.result.now c.in-Leaf.is c.get-in-Leaf.ensures) c.leaf_members.ensures.found
+    (λ doc. leaf_means doc c.args.default_field.now c.args.tree.now _ c.get-in-Leaf.result.now c.in-Leaf.is c.get-in-Leaf.ensures) c.leaf_members.ensures.found
 
 pub tree_members-returns-in-Leaf-clause-error : goal.tree_members-returns-in-Leaf-clause-error
 tree_members-returns-in-Leaf-clause-error g t c =

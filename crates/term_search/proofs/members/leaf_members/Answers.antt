@@ -14,14 +14,14 @@ use Rattle.term_search.proofs.members.leaf_members.Goals as goal
 pub returns-in-All-clause-found : goal.returns-in-All-clause-found
 returns-in-All-clause-found g c =
     finds_all _ c.args.index.now _ _ (ap (λ (s : Subset). s.elements) c.full.ensures)
-      (λ doc. ap (satisfies_leaf doc c.args.default_field.now) c.in-All.is ∙ all_holds doc c.args.default_field.now)
+    (λ doc. ap (satisfies_leaf doc c.args.default_field.now) c.in-All.is ∙ all_holds doc c.args.default_field.now)
 
 pub returns-in-Set-clause-found : goal.returns-in-Set-clause-found
 returns-in-Set-clause-found g c =
     finds_same_ok _ (λ doc. list_any (holds doc c.field_or.result.now) c.as_slice.result.now) _ _
-      (λ doc. set_holds doc c.args.default_field.now c.field_or.result.now c.in-Set.field c.as_slice.result.now c.field_or.ensures
-        ∙ ap (satisfies_leaf doc c.args.default_field.now) (ap (Set c.in-Set.field) c.as_slice.ensures ∙ sym c.in-Set.is))
-      c.set_members.ensures.found
+    (λ doc. set_holds doc c.args.default_field.now c.field_or.result.now c.in-Set.field c.as_slice.result.now c.field_or.ensures
+    ∙ ap (satisfies_leaf doc c.args.default_field.now) (ap (Set c.in-Set.field) c.as_slice.ensures ∙ sym c.in-Set.is))
+    c.set_members.ensures.found
 
 pub returns-in-Set-clause-reads : goal.returns-in-Set-clause-reads
 returns-in-Set-clause-reads g c =
@@ -30,4 +30,4 @@ returns-in-Set-clause-reads g c =
 pub returns-in-Regex-clause-found : goal.returns-in-Regex-clause-found
 returns-in-Regex-clause-found g c =
     finds_nothing _ _ _ (ap (λ (s : Subset). s.elements) c.empty.ensures)
-      (λ doc. ap (satisfies_leaf doc c.args.default_field.now) c.in-Regex.is ∙ regex_holds doc c.args.default_field.now c.in-Regex.field c.in-Regex.pattern)
+    (λ doc. ap (satisfies_leaf doc c.args.default_field.now) c.in-Regex.is ∙ regex_holds doc c.args.default_field.now c.in-Regex.field c.in-Regex.pattern)

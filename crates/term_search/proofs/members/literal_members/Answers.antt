@@ -11,9 +11,9 @@ returns-then-literal-gt0-clause-found g c =
 pub returns-in-Ok-clause-found : goal.returns-in-Ok-clause-found
 returns-in-Ok-clause-found g c =
     finds_same _ (λ doc. holds doc c.field_or-field.result.now c.as_str.result.now) _ _
-      (λ doc. ap (λ f. holds doc f c.as_str.result.now) c.field_or-field.ensures ∙ ap (holds doc _) c.as_str.ensures
-        ∙ literal_holds doc c.args.default_field.now c.args.literal.now (let none : c.args.literal.now.slop ≡ 0 = omega (arith, c.if-literal-gt0.false) in none) c.if-literal.false)
-      (finds_added _ _ c.empty-members.result.elements _ (ap (λ (s : Subset). s.elements) c.empty-members.ensures) c.in-Ok.ensures.adds)
+    (λ doc. ap (λ f. holds doc f c.as_str.result.now) c.field_or-field.ensures ∙ ap (holds doc _) c.as_str.ensures
+    ∙ literal_holds doc c.args.default_field.now c.args.literal.now (let none : c.args.literal.now.slop ≡ 0 = omega (arith, c.if-literal-gt0.false) in none) c.if-literal.false)
+    (finds_added _ _ c.empty-members.result.elements _ (ap (λ (s : Subset). s.elements) c.empty-members.ensures) c.in-Ok.ensures.adds)
 
 pub returns-in-Ok-clause-reads : goal.returns-in-Ok-clause-reads
 returns-in-Ok-clause-reads g c = literal_asks c.args.default_field.now c.field_or-field.result.now c.args.literal.now _ _ c.field_or-field.ensures c.add_term.ensures.reads
