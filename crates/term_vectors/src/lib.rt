@@ -6,4 +6,6 @@ mod adapters;
 #[cfg(test)]
 mod dates;
 #[cfg(test)]
+mod expressions;
+#[cfg(test)]
 mod wire;
