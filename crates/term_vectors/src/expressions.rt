@@ -5,16 +5,14 @@ use std::test::Fail;
 use tantivy_query_grammar::parse_query;
 use term_documents::{Bound, Expr, expr_depth, is_plain, print_expr};
 
-fn text(alloc: Global, text: &str) -> Result<Text, AllocError> {
-    Text::from_str(alloc, text)
-}
-
 fn term(alloc: Global, field: &str, word: &str) -> Result<Expr, AllocError> {
-    Ok(Expr::Term(text(alloc, field)?, text(alloc, word)?))
+    let field = Text::from_str(alloc, field)?;
+    Ok(Expr::Term(field, Text::from_str(alloc, word)?))
 }
 
 fn prefix(alloc: Global, field: &str, word: &str) -> Result<Expr, AllocError> {
-    Ok(Expr::Prefix(text(alloc, field)?, text(alloc, word)?))
+    let field = Text::from_str(alloc, field)?;
+    Ok(Expr::Prefix(field, Text::from_str(alloc, word)?))
 }
 
 fn not(alloc: Global, inner: Expr) -> Result<Expr, AllocError> {
@@ -22,71 +20,86 @@ fn not(alloc: Global, inner: Expr) -> Result<Expr, AllocError> {
 }
 
 fn and(alloc: Global, left: Expr, right: Expr) -> Result<Expr, AllocError> {
-    Ok(Expr::And(Box::new(alloc, left)?, Box::new(alloc, right)?))
+    let left = Box::new(alloc, left)?;
+    Ok(Expr::And(left, Box::new(alloc, right)?))
 }
 
 fn or(alloc: Global, left: Expr, right: Expr) -> Result<Expr, AllocError> {
-    Ok(Expr::Or(Box::new(alloc, left)?, Box::new(alloc, right)?))
+    let left = Box::new(alloc, left)?;
+    Ok(Expr::Or(left, Box::new(alloc, right)?))
+}
+
+fn a_or_b(alloc: Global) -> Result<Expr, AllocError> {
+    let left = term(alloc, "f", "a")?;
+    or(alloc, left, term(alloc, "f", "b")?)
+}
+
+fn a_and_b(alloc: Global) -> Result<Expr, AllocError> {
+    let left = term(alloc, "f", "a")?;
+    and(alloc, left, term(alloc, "f", "b")?)
+}
+
+// a or b, but no word that begins with c.
+fn without_c(alloc: Global) -> Result<Expr, AllocError> {
+    let left = a_or_b(alloc)?;
+    let right = not(alloc, prefix(alloc, "f", "c")?)?;
+    and(alloc, left, right)
 }
 
 // From this bound on, in the field f.
 fn above(alloc: Global, bound: &str) -> Result<Expr, AllocError> {
-    Ok(Expr::Range(
-        text(alloc, "f")?,
-        Bound::Inclusive(text(alloc, bound)?),
-        Bound::Unbounded,
-    ))
+    let field = Text::from_str(alloc, "f")?;
+    let lower = Bound::Inclusive(Text::from_str(alloc, bound)?);
+    Ok(Expr::Range(field, lower, Bound::Unbounded))
 }
 
-fn both_or_neither(alloc: Global) -> Result<Expr, AllocError> {
-    let either = or(alloc, term(alloc, "f", "a")?, term(alloc, "f", "b")?)?;
-    and(alloc, either, not(alloc, prefix(alloc, "f", "c")?)?)
+// Above a, and at most b.
+fn between(alloc: Global) -> Result<Expr, AllocError> {
+    let field = Text::from_str(alloc, "f")?;
+    let lower = Bound::Exclusive(Text::from_str(alloc, "a")?);
+    let upper = Bound::Inclusive(Text::from_str(alloc, "b")?);
+    Ok(Expr::Range(field, lower, upper))
 }
 
 fn one_of(alloc: Global) -> Result<Expr, AllocError> {
     let mut words = Texts::new(alloc);
-    words.push(text(alloc, "a")?)?;
-    words.push(text(alloc, "b c")?)?;
-    Ok(Expr::Set(text(alloc, "IN")?, words))
+    words.push(Text::from_str(alloc, "a")?)?;
+    words.push(Text::from_str(alloc, "b c")?)?;
+    Ok(Expr::Set(Text::from_str(alloc, "IN")?, words))
 }
 
-fn between(alloc: Global) -> Result<Expr, AllocError> {
-    Ok(Expr::Range(
-        text(alloc, "f")?,
-        Bound::Exclusive(text(alloc, "a")?),
-        Bound::Inclusive(text(alloc, "b")?),
-    ))
+// Whether the expression is plain and prints as this text.
+fn prints(alloc: Global, expr: Expr, want: &str) -> Result<bool, AllocError> {
+    let printed = print_expr(alloc, &expr)?;
+    Ok(is_plain(&expr) && printed.as_str() == want)
 }
 
 #[test]
-fn printed(rt: HostRuntime) -> Result<(), Fail> {
+fn leaves_as_texts(rt: HostRuntime) -> Result<(), Fail> {
     let alloc = rt.alloc();
-    let pair = and(alloc, term(alloc, "f", "a")?, term(alloc, "f", "b")?)?;
-    let rows = [
-        (
-            both_or_neither(alloc)?,
-            "(f:\"a\" OR f:\"b\") AND NOT f:\"c\"*",
-        ),
-        (term(alloc, "a b", "c")?, "a\\ b:\"c\""),
-        (term(alloc, "f", "x\"y")?, "f:\"x\\\"y\""),
-        (one_of(alloc)?, "IN:IN [\"a\" \"b c\"]"),
-        (between(alloc)?, "f:{a TO b]"),
-        (above(alloc, "a")?, "f:[a TO *]"),
-        (Expr::Exists(text(alloc, "f")?), "f:*"),
-        (not(alloc, pair)?, "NOT (f:\"a\" AND f:\"b\")"),
-    ];
-    for (expr, want) in &rows {
-        let printed = print_expr(alloc, expr)?;
-        assert_eq!(rt; printed.as_str(), *want);
-        assert!(rt; is_plain(expr), "{want}");
-    }
+    assert!(rt; prints(alloc, term(alloc, "a b", "c")?, "a\\ b:\"c\"")?);
+    assert!(rt; prints(alloc, term(alloc, "f", "x\"y")?, "f:\"x\\\"y\"")?);
+    assert!(rt; prints(alloc, one_of(alloc)?, "IN:IN [\"a\" \"b c\"]")?);
+    assert!(rt; prints(alloc, between(alloc)?, "f:{a TO b]")?);
+    assert!(rt; prints(alloc, above(alloc, "a")?, "f:[a TO *]")?);
+    assert!(rt; prints(alloc, Expr::Exists(Text::from_str(alloc, "f")?), "f:*")?);
     Ok(())
 }
 
 #[test]
-fn read_again(rt: HostRuntime) -> Result<(), Fail> {
+fn joined_expressions_as_texts(rt: HostRuntime) -> Result<(), Fail> {
     let alloc = rt.alloc();
-    let printed = print_expr(alloc, &both_or_neither(alloc)?)?;
+    let want = "(f:\"a\" OR f:\"b\") AND NOT f:\"c\"*";
+    assert!(rt; prints(alloc, without_c(alloc)?, want)?);
+    let want = "NOT (f:\"a\" AND f:\"b\")";
+    assert!(rt; prints(alloc, not(alloc, a_and_b(alloc)?)?, want)?);
+    Ok(())
+}
+
+#[test]
+fn a_printed_expression_is_read(rt: HostRuntime) -> Result<(), Fail> {
+    let alloc = rt.alloc();
+    let printed = print_expr(alloc, &without_c(alloc)?)?;
     let tree = parse_query(alloc, printed.as_str())?;
     let debug = format!(in alloc; "{tree:?}")?;
     assert_eq!(rt;
@@ -97,19 +110,17 @@ fn read_again(rt: HostRuntime) -> Result<(), Fail> {
 }
 
 #[test]
-fn plain(rt: HostRuntime) -> Result<(), Fail> {
-    let alloc = rt.alloc();
-    let rows = [
-        (term(alloc, "", "a")?, false),
-        (term(alloc, "-f", "a")?, false),
-        (term(alloc, "a\tb", "a")?, false),
-        (term(alloc, "NOT", "a")?, true),
-        (above(alloc, "*")?, false),
-        (above(alloc, "-5a")?, false),
-        (above(alloc, "-5.5")?, true),
-    ];
-    for (expr, want) in &rows {
-        assert_eq!(rt; is_plain(expr), *want);
+fn plain_fields(rt: HostRuntime) -> Result<(), Fail> {
+    for (field, want) in [("", false), ("-f", false), ("a\tb", false), ("NOT", true)] {
+        assert_eq!(rt; is_plain(&term(rt.alloc(), field, "a")?), want, "{field}");
+    }
+    Ok(())
+}
+
+#[test]
+fn plain_bounds(rt: HostRuntime) -> Result<(), Fail> {
+    for (bound, want) in [("*", false), ("-5a", false), ("-5.5", true)] {
+        assert_eq!(rt; is_plain(&above(rt.alloc(), bound)?), want, "{bound}");
     }
     Ok(())
 }
@@ -117,16 +128,10 @@ fn plain(rt: HostRuntime) -> Result<(), Fail> {
 #[test]
 fn depths(rt: HostRuntime) -> Result<(), Fail> {
     let alloc = rt.alloc();
-    let either = or(alloc, term(alloc, "f", "a")?, term(alloc, "f", "b")?)?;
-    let rows = [
-        (term(alloc, "f", "a")?, 0),
-        (not(alloc, term(alloc, "f", "a")?)?, 1),
-        // the parentheses round an Or under an And, and beside it a NOT
-        (both_or_neither(alloc)?, 1),
-        (not(alloc, either)?, 2),
-    ];
-    for (expr, depth) in &rows {
-        assert_eq!(rt; expr_depth(expr), *depth);
-    }
+    assert_eq!(rt; expr_depth(&term(alloc, "f", "a")?), 0);
+    assert_eq!(rt; expr_depth(&not(alloc, term(alloc, "f", "a")?)?), 1);
+    // the parentheses round an Or under an And, and beside it a NOT
+    assert_eq!(rt; expr_depth(&without_c(alloc)?), 1);
+    assert_eq!(rt; expr_depth(&not(alloc, a_or_b(alloc)?)?), 2);
     Ok(())
 }
