@@ -1,5 +1,5 @@
 -- What a look-up in an opened index tells of a search.
-use Rattle.std.proofs.Common.{◌≡◌, ◌∙◌, sym, ap, subst, refl, ℕ, ◌+◌, ◌<◌, Bool, true, false, ◌||◌, List, [], ◌∷◌, ◌++◌, length, Option, Some, None, Result, Ok, Err, slice_get, ◌⊎◌, inl, inr, ◌&&◌, not, All, suc, arith, IsTrue, ◌↔◌}
+use Rattle.std.proofs.Common.{◌≡◌, ◌∙◌, sym, ap, subst, refl, ℕ, Bool, true, false, ◌||◌, List, [], ◌∷◌, ◌++◌, Option, Some, None, Ok, Err, slice_get, inl, inr, ◌&&◌, All, suc, arith, IsTrue, ◌↔◌}
 use Rattle.std.specs.Prelude.{unwrap_or, bytes_eq}
 use Rattle.std.specs.List.{list_any}
 use Rattle.std.specs.Cmp.Lexicographic.{bytes_decides}
@@ -16,8 +16,8 @@ use Rattle.term_documents.specs.Documents.{IsField, IsValidPair, AreValidDocumen
 use Rattle.term_documents.specs.Postings.{Postings, gather}
 use Rattle.index_reading.specs.declared.errors.IndexError.{IndexError}
 use Rattle.index_reading.specs.declared.errors.IndexError.TheVariants.{Memory, Read, Corrupt, Compressed, Version, NotYet}
-use Rattle.index_reading.specs.LookUp.{LooksUpTold, LooksUp, IsLookUpError, NamesCompressed}
-use Rattle.term_search.specs.Members.{HasThose, Posts, Adds, Finds, IsSearchError, NamesBlock, error_of_index}
+use Rattle.index_reading.specs.LookUp.{LooksUpTold, IsLookUpError, NamesCompressed}
+use Rattle.term_search.specs.Members.{Posts, Adds, IsSearchError, NamesBlock, error_of_index}
 use Rattle.term_search.proofs.Posted.{posted, doc_pairs}
 
 damaged : (told : Option Postings) (key : Key) (e : IndexError) → (e ≡ Memory → ⊥) → (e ≡ Read → ⊥) → LooksUpTold told key (Err e) → told ≡ None
@@ -81,7 +81,7 @@ not_held : (field : List ℕ) (test : List ℕ → Bool) (pairs : List Pair) →
 not_held field test [] never valid = refl
 not_held field test (p ∷ pairs) never valid =
     ap (λ b. b || list_any (λ (pair : Pair). bytes_eq pair.field field && test pair.term) pairs)
-        (and_no (bytes_eq p.field field) (test p.term) (λ same. never (subst IsField ((bytes_decides p.field field).0 same) (let first : IsValidPair p = valid 0 p (omega arith) in first.field))))
+    (and_no (bytes_eq p.field field) (test p.term) (λ same. never (subst IsField ((bytes_decides p.field field).0 same) (let first : IsValidPair p = valid 0 p (omega arith) in first.field))))
     ∙ not_held field test pairs never (λ k d less. valid (suc k) d (omega arith))
 
 pub posts_nowhere : (told : Option Postings) (field term : List ℕ) → (IsField field → ⊥) → Posts told (λ doc. holds doc field term) []

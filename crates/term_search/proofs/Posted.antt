@@ -1,8 +1,8 @@
 -- The numbers at a key are those of the documents that hold its term in its field.
-use Rattle.std.proofs.Common.{rules, ◌≡◌, ◌∙◌, sym, ap, subst, refl, ℕ, zero, suc, ◌+◌, ◌<◌, ◌≤◌, Bool, true, false, not, ◌&&◌, ◌||◌, cond, List, [], ◌∷◌, ◌++◌, map, filter, length, Option, Some, None, All, slice_get, arith, nat_eq, nat_lt, flat_map, slice_index_or}
-use Rattle.std.specs.Prelude.{if◌then◌else◌, unwrap_or, bytes_eq}
-use Rattle.std.specs.List.{list_any, list_all, enumerate_from, range_with_len}
-use Rattle.std.specs.FinSet.{contains, from_list, union, contains-from_list_nat}
+use Rattle.std.proofs.Common.{rules, ◌≡◌, ◌∙◌, sym, ap, subst, refl, ℕ, zero, suc, ◌+◌, ◌<◌, Bool, true, false, ◌&&◌, ◌||◌, List, [], ◌∷◌, ◌++◌, map, filter, length, Some, None, All, slice_get, arith, nat_eq, flat_map}
+use Rattle.std.specs.Prelude.{unwrap_or, bytes_eq}
+use Rattle.std.specs.List.{list_any, enumerate_from, range_with_len}
+use Rattle.std.specs.FinSet.{contains, from_list, contains-from_list_nat}
 use Rattle.std.specs.Ordering.{nat_cmp, is_eq}
 use Rattle.std.specs.Cmp.Lexicographic.{slice_cmp, bytes_decides, nat_list_eq_equiv}
 use Rattle.std.specs.declared.cmp.Ordering.{Ordering}
@@ -75,8 +75,10 @@ rising_from k s test (d ∷ docs) each = by (rising_from (k + 1) s test docs lat
   where
     first : contains s k ≡ test d
     first = ap (contains s) (let e : k ≡ k + 0 = omega arith in e) ∙ each 0 d refl
+
     later : (i : ℕ) (doc : Doc) → slice_get docs i ≡ Some doc → contains s ((k + 1) + i) ≡ test doc
     later i doc h = ap (contains s) (let e : (k + 1) + i ≡ k + suc i = omega arith in e) ∙ each (suc i) doc h
+
     by : filter (contains s) (range_with_len (k + 1) (length docs)) ≡ numbers_from (k + 1) test docs → contains s k ≡ test d → (t : Bool) → test d ≡ t
         → filter (contains s) (range_with_len k (length (d ∷ docs))) ≡ numbers_from k test (d ∷ docs)
     by more here true e = rw (here, e) (ap (λ ns. k ∷ ns) more)
@@ -96,7 +98,7 @@ equal-eq Greater = refl
 same-bytes : (a b : Key) → is_same a b ≡ bytes_eq a b
 same-bytes a b = equal-eq (slice_cmp nat_cmp a b) ∙ is_eq-slice_cmp a b
 
-same_is : (a b : Key) → is_same a b ≡ true → a ≡ b
+pub same_is : (a b : Key) → is_same a b ≡ true → a ≡ b
 same_is a b h = (bytes_decides a b).0 (sym (same-bytes a b) ∙ h)
 
 -- no byte of the field is 0
@@ -136,7 +138,7 @@ pairs_hold : (field term : List ℕ) (pairs : List Pair) → HasNoZero field →
 pairs_hold field term [] own valid = refl
 pairs_hold field term (p ∷ pairs) own valid =
     ap (λ b. b || list_any (λ pair. is_same (field ++ 0 ∷ term) (key_of pair)) pairs)
-        (let first : IsValidPair p = valid 0 p (omega arith) in pair_same field term p own first.field.no_separator)
+    (let first : IsValidPair p = valid 0 p (omega arith) in pair_same field term p own first.field.no_separator)
     ∙ ap (λ b. (bytes_eq p.field field && bytes_eq p.term term) || b) (pairs_hold field term pairs own (λ k d less. valid (suc k) d (omega arith)))
 
 -- ---- the keys of documents
