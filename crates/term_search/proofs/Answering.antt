@@ -1,5 +1,5 @@
 -- What a search answers, by what its steps answer.
-use Rattle.std.proofs.Common.{◌≡◌, ◌≢◌, ◌∙◌, sym, ap, subst, refl, ℕ, ◌+◌, ◌*◌, ◌<◌, ◌≤◌, Bool, true, false, List, [], ◌∷◌, length, Option, Some, None, Result, Ok, Err, ◌⊎◌, inl, inr, arith, filter, map, length-append}
+use Rattle.std.proofs.Common.{◌≡◌, ◌∙◌, sym, ap, subst, refl, ℕ, ◌+◌, ◌*◌, ◌≤◌, Bool, true, false, List, [], ◌∷◌, length, Option, Some, None, Ok, Err, arith, filter, map, length-append}
 use Rattle.std.specs.Prelude.{unwrap_or, bytes_eq, suc}
 use Rattle.std.specs.List.{flat_map}
 use Rattle.owned_bytes.specs.Outside.{RisesAtMost}
@@ -15,19 +15,14 @@ use Rattle.query_tree.specs.declared.answer.ParseError.TheVariants as parse
 use Rattle.query_tree.specs.declared.tree.UserInputAst.{UserInputAst}
 use Rattle.query_tree.specs.Answer as grammar
 use Rattle.query_tree.specs.Answer.{Answer, tree_of}
-use Rattle.term_documents.specs.declared.documents.Doc.{Doc}
-use Rattle.term_documents.specs.Documents.{numbers_where}
-use Rattle.term_documents.specs.Postings.{Postings, gather}
+use Rattle.term_documents.specs.Postings.{gather}
 use Rattle.term_documents.specs.Satisfies.{satisfies, Lookup, lookups_of_leaf}
-use Rattle.term_documents.specs.Law.{satisfying}
 use Rattle.term_documents.proofs.PrintedLaw.{numbers_mean, printed_is_read}
-use Rattle.index_file.specs.IndexFile.{table_of, IsIndexOf}
-use Rattle.index_file.specs.Opening.{CanBeOpened, IsDamaged}
 use Rattle.index_reading.specs.declared.open.OpenIndex.{OpenIndex}
-use Rattle.index_reading.specs.Opened.{postings_told, postings_in}
-use Rattle.index_reading.specs.Opening.{OpensTold, HasOpened}
-use Rattle.term_search.specs.Members.{HasThose, Finds}
-use Rattle.term_search.specs.Searching.{FindsNumbersTold, ReadsQuery, IsSearched, AnswersExpression, AnswersTold, FindsDocuments, ReadsWithin}
+use Rattle.index_reading.specs.Opened.{postings_told}
+use Rattle.index_reading.specs.Opening.{OpensTold}
+use Rattle.term_search.specs.Members.{Finds}
+use Rattle.term_search.specs.Searching.{FindsNumbersTold, ReadsQuery, IsSearched, AnswersExpression, AnswersTold, ReadsWithin}
 use Rattle.term_search.proofs.Leaf.{told_documents, gathered_documents}
 use Rattle.term_search.proofs.Posted.{rising_those}
 
@@ -101,7 +96,7 @@ leaves_units default (l ∷ leaves) =
 asked-units : (tree : UserInputAst) (default : List ℕ) → length (asked tree default) ≤ units tree
 asked-units tree default = omega (arith, filter-le (λ (wanted : Lookup). is_field wanted.field) (lookups_of tree default), leaves_units default (leaves_of tree))
 
-same_tree : (query : List ℕ) (a b : UserInputAst) → tree_of query ≡ grammar.Tree a → tree_of query ≡ grammar.Tree b → a ≡ b
+pub same_tree : (query : List ℕ) (a b : UserInputAst) → tree_of query ≡ grammar.Tree a → tree_of query ≡ grammar.Tree b → a ≡ b
 same_tree query a b h k = (let e : grammar.Tree a ≡ grammar.Tree b = sym h ∙ k in cc)
 
 pub reads_units : (query default : List ℕ) (tree : UserInputAst) (before now : ℕ) → IsSearched query tree → RisesAtMost before now (4 + 2 * length (asked tree default)) → ReadsWithin query before now

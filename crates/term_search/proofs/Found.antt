@@ -1,5 +1,5 @@
 -- What a look-up in an opened index tells of a search.
-use Rattle.std.proofs.Common.{◌≡◌, ◌∙◌, sym, ap, subst, refl, ℕ, ◌+◌, ◌<◌, Bool, true, false, ◌||◌, List, [], ◌∷◌, ◌++◌, length, Option, Some, None, Result, Ok, Err, slice_get, ◌⊎◌, inl, inr, ◌&&◌, not, All, suc, arith, IsTrue, ◌↔◌}
+use Rattle.std.proofs.Common.{◌≡◌, ◌∙◌, sym, ap, subst, refl, ℕ, Bool, true, false, ◌||◌, List, [], ◌∷◌, ◌++◌, Option, Some, None, Ok, Err, slice_get, inl, inr, ◌&&◌, All, suc, arith, IsTrue, ◌↔◌}
 use Rattle.std.specs.Prelude.{unwrap_or, bytes_eq}
 use Rattle.std.specs.List.{list_any}
 use Rattle.std.specs.Cmp.Lexicographic.{bytes_decides}
@@ -16,8 +16,8 @@ use Rattle.term_documents.specs.Documents.{IsField, IsValidPair, AreValidDocumen
 use Rattle.term_documents.specs.Postings.{Postings, gather}
 use Rattle.index_reading.specs.declared.errors.IndexError.{IndexError}
 use Rattle.index_reading.specs.declared.errors.IndexError.TheVariants.{Memory, Read, Corrupt, Compressed, Version, NotYet}
-use Rattle.index_reading.specs.LookUp.{LooksUpTold, LooksUp, IsLookUpError, NamesCompressed}
-use Rattle.term_search.specs.Members.{HasThose, Posts, Adds, Finds, IsSearchError, NamesBlock, error_of_index}
+use Rattle.index_reading.specs.LookUp.{LooksUpTold, IsLookUpError, NamesCompressed}
+use Rattle.term_search.specs.Members.{Posts, Adds, IsSearchError, NamesBlock, error_of_index}
 use Rattle.term_search.proofs.Posted.{posted, doc_pairs}
 
 damaged : (told : Option Postings) (key : Key) (e : IndexError) → (e ≡ Memory → ⊥) → (e ≡ Read → ⊥) → LooksUpTold told key (Err e) → told ≡ None

@@ -1,15 +1,14 @@
 -- What a leaf's set has, and what is asked for it.
-use Rattle.std.proofs.Common.{◌≡◌, ◌∙◌, sym, ap, subst, refl, ℕ, zero, suc, ◌+◌, ◌*◌, ◌<◌, ◌≤◌, Bool, true, false, not, ◌&&◌, ◌||◌, ◌==◌, cond, List, [], ◌∷◌, ◌++◌, length, map, filter, Option, Some, None, Result, Ok, Err, IfOk, slice_get, arith, ltb}
+use Rattle.std.proofs.Common.{◌≡◌, ◌∙◌, sym, ap, subst, refl, ℕ, zero, suc, ◌*◌, ◌<◌, ◌≤◌, Bool, true, false, ◌&&◌, ◌||◌, ◌==◌, List, [], ◌∷◌, ◌++◌, length, map, filter, Option, Some, None, Result, Ok, Err, IfOk, slice_get, arith}
 use Rattle.common_bitset.specs.Subset.{Subset}
-use Rattle.std.specs.Prelude.{if◌then◌else◌, unwrap_or, nat_eq, bytes_eq, option_and_then}
+use Rattle.std.specs.Prelude.{if◌then◌else◌, unwrap_or, nat_eq, bytes_eq}
 use Rattle.std.specs.List.{list_any, list_all, starts_with}
+use Rattle.std.specs.declared.ops.Range.{Range}
 use Rattle.std.specs.FinSet.{empty, contains}
-use Rattle.std.specs.Ordering.{nat_cmp}
-use Rattle.std.proofs.Math.Dec.{eqb-suc-zero}
 use Rattle.std.proofs.lemmas.Bool.{lt-ltb}
-use Rattle.std.proofs.lemmas.Option.{slice_get_cases}
-use Rattle.owned_bytes.specs.Front.{◌>>=◌, provided}
+use Rattle.owned_bytes.specs.Front.{provided}
 use Rattle.owned_bytes.proofs.Pieces.{bind_some, some_is}
+use Rattle.owned_bytes.specs.Keys.{Key}
 use Rattle.owned_bytes.specs.Outside.{RisesAtMost}
 use Rattle.common_bitset.specs.Numbers.{Numbers, below}
 use Rattle.common_bitset.specs.Laws.Sets.{contains_empty, contains_below}
@@ -18,14 +17,14 @@ use Rattle.query_tree.specs.declared.tree.UserInputLeaf.{UserInputLeaf}
 use Rattle.query_tree.specs.declared.tree.UserInputLeaf.TheVariants as leaf
 use Rattle.term_documents.specs.declared.documents.Pair.{Pair}
 use Rattle.term_documents.specs.declared.documents.Doc.{Doc}
-use Rattle.term_documents.specs.Documents.{holds, holds_where, is_field, AreValidDocuments}
+use Rattle.term_documents.specs.Documents.{holds, holds_where, is_field}
 use Rattle.term_documents.specs.Postings.{Postings, gather}
 use Rattle.term_documents.specs.Satisfies.{Lookup, satisfies_leaf, lookups_of_leaf, takes_literal}
 use Rattle.index_file.specs.IndexFile.{postings_of, with_numbers, adjoin, is_posting}
-use Rattle.index_file.specs.Header.{numbers_in}
+use Rattle.index_file.specs.Header.{Header, numbers_in}
 use Rattle.index_reading.specs.declared.open.OpenIndex.{OpenIndex}
 use Rattle.index_reading.specs.Opened.{postings_told, postings_in, header_of}
-use Rattle.term_search.specs.Members.{HasThose, Finds, Adds, asked_by}
+use Rattle.term_search.specs.Members.{Finds, Adds, asked_by, lookup_of, lookups_among}
 
 -- ---- a set begun from the empty one
 
@@ -53,17 +52,22 @@ finds_nothing told test elements is never = record {
 
 -- ---- the number of documents
 
-postings_documents : (told : Option Postings) (index : OpenIndex) (file : List ℕ) (postings : Postings) → postings_in index file ≡ Some postings → postings.documents ≡ index.documents
+pub postings_are : (header : Header) (entries : List (Key × Range ℕ)) (postings : Postings) → postings_of header entries ≡ Some postings
+    → record { documents = header.documents; entries = map (with_numbers (numbers_in header)) entries } ≡ postings
+postings_are header entries postings h =
+    let first = bind_some (provided (adjoin 0 header.count (map (λ (entry : Key × Range ℕ). entry.1) entries))) _ postings h in
+    let second = bind_some (provided (list_all (is_posting header.documents) (map (with_numbers (numbers_in header)) entries))) _ postings first.2 in
+    some_is _ postings second.2
+
+postings_documents : (index : OpenIndex) (file : List ℕ) (postings : Postings) → postings_in index file ≡ Some postings → postings.documents ≡ index.documents
 unfolding postings_in
-postings_documents told index file postings h =
+postings_documents index file postings h =
     let first = bind_some _ (postings_of (header_of index file)) postings h in
-    let second = bind_some (provided (adjoin 0 index.count (map (λ (entry : _). entry.1) first.0))) _ postings first.2 in
-    let third = bind_some (provided (list_all (is_posting index.documents) (map (with_numbers (numbers_in (header_of index file))) first.0))) _ postings second.2 in
-    ap (λ (p : Postings). p.documents) (sym (some_is _ postings third.2))
+    ap (λ (p : Postings). p.documents) (sym (postings_are (header_of index file) first.0 postings first.2))
 
 pub told_documents : (contents : Option (List ℕ)) (index : OpenIndex) (postings : Postings) → postings_told index contents ≡ Some postings → postings.documents ≡ index.documents
 told_documents None index postings h = cc
-told_documents (Some file) index postings h = postings_documents None index file postings h
+told_documents (Some file) index postings h = postings_documents index file postings h
 
 pub gathered_documents : (docs : List Doc) → (gather docs).documents ≡ length docs
 unfolding gather
@@ -97,16 +101,17 @@ and_false : (b : Bool) → (b && false) ≡ false
 and_false true = refl
 and_false false = refl
 
+literal_takes : (l : UserInputLiteral) → l.slop ≡ 0 → l.prefix ≡ false → (term : List ℕ) → takes_literal l term ≡ bytes_eq term l.phrase
+literal_takes l slop prefix term =
+    ap (λ n. (n == 0) && (if l.prefix then starts_with nat_eq term l.phrase else bytes_eq term l.phrase)) slop
+    ∙ ap (λ b. if b then starts_with nat_eq term l.phrase else bytes_eq term l.phrase) prefix
+
 pub literal_holds : (doc : Doc) (default : List ℕ) (l : UserInputLiteral) → l.slop ≡ 0 → l.prefix ≡ false
     → holds doc (unwrap_or l.field_name default) l.phrase ≡ satisfies_leaf doc default (leaf.Literal l)
 unfolding satisfies_leaf lookups_of_leaf
 literal_holds doc default l slop prefix =
-    sym (or_false (holds_where doc (unwrap_or l.field_name default) (takes_literal l)) ∙ ap (λ test. holds_where doc (unwrap_or l.field_name default) test) (λ i term. takes term i))
-  where
-    takes : (term : List ℕ) → takes_literal l term ≡ bytes_eq term l.phrase
-    takes term =
-        ap (λ n. (n == 0) && (if l.prefix then starts_with nat_eq term l.phrase else bytes_eq term l.phrase)) slop
-        ∙ ap (λ b. if b then starts_with nat_eq term l.phrase else bytes_eq term l.phrase) prefix
+    sym (or_false (holds_where doc (unwrap_or l.field_name default) (takes_literal l))
+    ∙ ap (λ test. holds_where doc (unwrap_or l.field_name default) test) (λ i term. literal_takes l slop prefix term i))
 
 never_held : (field : List ℕ) (test : List ℕ → Bool) (pairs : List Pair) → ((term : List ℕ) → test term ≡ false)
     → list_any (λ (pair : Pair). bytes_eq pair.field field && test pair.term) pairs ≡ false
@@ -162,15 +167,12 @@ literal_asks default field l before now is rises = record {
   bound = (let own : (if is_field field then 2 else 0) ≤ 2 * length (asked_by default (leaf.Literal l ∷ [])) = subst (λ f. (if is_field f then 2 else 0) ≤ 2 * length (asked_by default (leaf.Literal l ∷ []))) (sym is) (asks_one (unwrap_or l.field_name default) (takes_literal l)) in omega (arith, rises.bound, own));
 }
 
-abbrev each_in : List ℕ → List ℕ → Lookup
-each_in field element = record { field = field; takes = λ term. bytes_eq term element }
-
-asks_each : (field : List ℕ) (elements : List (List ℕ)) → length elements * (if is_field field then 2 else 0) ≤ 2 * length (filter (λ (wanted : Lookup). is_field wanted.field) (map (each_in field) elements))
+asks_each : (field : List ℕ) (elements : List (List ℕ)) → length elements * (if is_field field then 2 else 0) ≤ 2 * length (filter (λ (wanted : Lookup). is_field wanted.field) (map (lookup_of field) elements))
 asks_each field [] = omega arith
 asks_each field (e ∷ elements) = by (asks_each field elements) (is_field field) refl
   where
-    by : length elements * (if is_field field then 2 else 0) ≤ 2 * length (filter (λ (wanted : Lookup). is_field wanted.field) (map (each_in field) elements)) → (b : Bool) → is_field field ≡ b
-        → length (e ∷ elements) * (if is_field field then 2 else 0) ≤ 2 * length (filter (λ (wanted : Lookup). is_field wanted.field) (map (each_in field) (e ∷ elements)))
+    by : length elements * (if is_field field then 2 else 0) ≤ 2 * length (filter (λ (wanted : Lookup). is_field wanted.field) (map (lookup_of field) elements)) → (b : Bool) → is_field field ≡ b
+        → length (e ∷ elements) * (if is_field field then 2 else 0) ≤ 2 * length (filter (λ (wanted : Lookup). is_field wanted.field) (map (lookup_of field) (e ∷ elements)))
     by more true is = rw is (let have = (rw is at more) in omega (arith, have))
     by more false is = rw is (omega arith)
 
@@ -184,10 +186,10 @@ unfolding lookups_of_leaf
 set_asks default field own elements before now is rises = record {
   later = rises.later;
   bound =
-      let own_field : length elements * (if is_field field then 2 else 0) ≤ 2 * length (filter (λ (wanted : Lookup). is_field wanted.field) (map (each_in (unwrap_or own default)) elements)) =
-      subst (λ f. length elements * (if is_field f then 2 else 0) ≤ 2 * length (filter (λ (wanted : Lookup). is_field wanted.field) (map (each_in (unwrap_or own default)) elements))) (sym is) (asks_each (unwrap_or own default) elements) in
-      let whole : length (asked_by default (leaf.Set own elements ∷ [])) ≡ length (filter (λ (wanted : Lookup). is_field wanted.field) (map (each_in (unwrap_or own default)) elements)) =
-      ap (λ ws. length (filter (λ (wanted : Lookup). is_field wanted.field) ws)) (nothing (map (each_in (unwrap_or own default)) elements)) in
+      let own_field : length elements * (if is_field field then 2 else 0) ≤ 2 * length (filter (λ (wanted : Lookup). is_field wanted.field) (map (lookup_of (unwrap_or own default)) elements)) =
+      subst (λ f. length elements * (if is_field f then 2 else 0) ≤ 2 * length (filter (λ (wanted : Lookup). is_field wanted.field) (map (lookup_of (unwrap_or own default)) elements))) (sym is) (asks_each (unwrap_or own default) elements) in
+      let whole : length (asked_by default (leaf.Set own elements ∷ [])) ≡ length (filter (λ (wanted : Lookup). is_field wanted.field) (map (lookup_of (unwrap_or own default)) elements)) =
+      ap (λ ws. length (filter (λ (wanted : Lookup). is_field wanted.field) ws)) (nothing (map (lookup_of (unwrap_or own default)) elements)) in
       omega (arith, rises.bound, own_field, whole);
 }
 
@@ -195,3 +197,19 @@ pub set_leaf_asks : (default field : List ℕ) (own : Option (List ℕ)) (elemen
     → RisesAtMost before now (length texts * (if is_field field then 2 else 0)) → RisesAtMost before now (2 * length (asked_by default (l ∷ [])))
 set_leaf_asks default field own elements texts l before now is same own_field rises =
     subst (λ (found : UserInputLeaf). RisesAtMost before now (2 * length (asked_by default (found ∷ [])))) (ap (leaf.Set own) same ∙ sym is) (set_asks default field own texts before now own_field rises)
+
+-- ---- what leaves look for
+
+pub literal_looks_for : (default field term : List ℕ) (l : UserInputLiteral) → field ≡ unwrap_or l.field_name default → term ≡ l.phrase → l.slop ≡ 0 → l.prefix ≡ false
+    → lookup_of field term ∷ [] ≡ lookups_among default (leaf.Literal l ∷ [])
+unfolding lookups_of_leaf
+literal_looks_for default field term l is same slop prefix =
+    ap (λ f. lookup_of f term ∷ []) is ∙ ap (λ t. lookup_of (unwrap_or l.field_name default) t ∷ []) same
+    ∙ ap (λ (test : List ℕ → Bool). record { field = unwrap_or l.field_name default; takes = test } ∷ []) (λ i found. sym (literal_takes l slop prefix found) i)
+
+pub set_looks_for : (default field : List ℕ) (own : Option (List ℕ)) (elements texts : List (List ℕ)) (l : UserInputLeaf) → l ≡ leaf.Set own elements → texts ≡ elements → field ≡ unwrap_or own default
+    → map (lookup_of field) texts ≡ lookups_among default (l ∷ [])
+unfolding lookups_of_leaf
+set_looks_for default field own elements texts l is same own_field =
+    ap (map (lookup_of field)) same ∙ ap (λ f. map (lookup_of f) elements) own_field
+    ∙ sym (nothing (map (lookup_of (unwrap_or own default)) elements)) ∙ ap (λ (found : UserInputLeaf). lookups_among default (found ∷ [])) (sym is)

@@ -1,8 +1,8 @@
 -- The numbers at a key are those of the documents that hold its term in its field.
-use Rattle.std.proofs.Common.{rules, ◌≡◌, ◌∙◌, sym, ap, subst, refl, ℕ, zero, suc, ◌+◌, ◌<◌, ◌≤◌, Bool, true, false, not, ◌&&◌, ◌||◌, cond, List, [], ◌∷◌, ◌++◌, map, filter, length, Option, Some, None, All, slice_get, arith, nat_eq, nat_lt, flat_map, slice_index_or}
-use Rattle.std.specs.Prelude.{if◌then◌else◌, unwrap_or, bytes_eq}
-use Rattle.std.specs.List.{list_any, list_all, enumerate_from, range_with_len}
-use Rattle.std.specs.FinSet.{contains, from_list, union, contains-from_list_nat}
+use Rattle.std.proofs.Common.{rules, ◌≡◌, ◌∙◌, sym, ap, subst, refl, ℕ, zero, suc, ◌+◌, ◌<◌, Bool, true, false, ◌&&◌, ◌||◌, List, [], ◌∷◌, ◌++◌, map, filter, length, Some, None, All, slice_get, arith, nat_eq, flat_map}
+use Rattle.std.specs.Prelude.{unwrap_or, bytes_eq}
+use Rattle.std.specs.List.{list_any, enumerate_from, range_with_len}
+use Rattle.std.specs.FinSet.{contains, from_list, contains-from_list_nat}
 use Rattle.std.specs.Ordering.{nat_cmp, is_eq}
 use Rattle.std.specs.Cmp.Lexicographic.{slice_cmp, bytes_decides, nat_list_eq_equiv}
 use Rattle.std.specs.declared.cmp.Ordering.{Ordering}
@@ -98,7 +98,7 @@ equal-eq Greater = refl
 same-bytes : (a b : Key) → is_same a b ≡ bytes_eq a b
 same-bytes a b = equal-eq (slice_cmp nat_cmp a b) ∙ is_eq-slice_cmp a b
 
-same_is : (a b : Key) → is_same a b ≡ true → a ≡ b
+pub same_is : (a b : Key) → is_same a b ≡ true → a ≡ b
 same_is a b h = (bytes_decides a b).0 (sym (same-bytes a b) ∙ h)
 
 -- no byte of the field is 0

@@ -1,12 +1,12 @@
 -- What the set of a tree has, and what is asked for it, by its parts.
-use Rattle.std.proofs.Common.{◌≡◌, ◌∙◌, sym, ap, subst, refl, ℕ, zero, suc, ◌+◌, ◌*◌, ◌<◌, ◌≤◌, Bool, true, false, ◌&&◌, ◌||◌, List, [], ◌∷◌, ◌++◌, length, map, take, drop, get_or, Option, Some, None, Result, Ok, Err, IfOk, IfErr, slice_get, arith, length-append, take-append-drop, filter}
+use Rattle.std.proofs.Common.{◌≡◌, ◌∙◌, sym, ap, subst, refl, ℕ, zero, suc, ◌+◌, ◌*◌, ◌<◌, ◌≤◌, Bool, true, false, ◌||◌, List, [], ◌∷◌, ◌++◌, length, take, drop, get_or, Option, None, Result, IfErr, arith, length-append, take-append-drop, filter}
 use Rattle.std.proofs.lemmas.List.{take_all, map-append}
 use Rattle.std.proofs.lemmas.Grind.{flat_map-append}
 use Rattle.std.proofs.lemmas.List.Elements.{filter-append}
 use Rattle.std.specs.List.{list_any, flat_map}
 use Rattle.std.specs.FinSet.{contains}
 use Rattle.std.proofs.lemmas.List.Folds.{list_any-append}
-use Rattle.owned_bytes.specs.Outside.{HasCause, RisesAtMost}
+use Rattle.owned_bytes.specs.Outside.{RisesAtMost}
 use Rattle.common_bitset.specs.Numbers.{Numbers}
 use Rattle.document_sets.specs.Joined.{Joined, joined_elements}
 use Rattle.query_tree.specs.declared.tree.Occur.{Occur}
@@ -18,16 +18,17 @@ use Rattle.term_documents.specs.declared.documents.Doc.{Doc}
 use Rattle.term_documents.specs.Documents.{is_field}
 use Rattle.term_documents.specs.Postings.{Postings}
 use Rattle.term_documents.specs.Satisfies.{Lookup, satisfies, satisfies_clause, satisfies_leaf, lookups_of_leaf}
-use Rattle.index_file.specs.Search.{leaves_of, asked}
+use Rattle.index_file.specs.Search.{leaves_of, lookups_of, asked}
 use Rattle.index_reading.specs.declared.open.OpenIndex.{OpenIndex}
 use Rattle.index_reading.specs.Opened.{postings_told}
 use Rattle.term_search.specs.Leaves.{leaves_among, is_waiting_leaf, has_waiting_leaf}
 use Rattle.term_search.specs.declared.answer.SearchError.{SearchError}
 use Rattle.term_search.specs.declared.answer.SearchError.TheVariants.{Memory, Query, TooDeep, Unsupported, NotYet, Version, Corrupt, Compressed, Read}
-use Rattle.term_search.specs.Members.{HasThose, Finds, Joins, AddsMark, answered, asked_by, marks_at, marks_of, with_mark, IsSearchError}
+use Rattle.term_search.specs.Members.{Finds, Joins, AddsMark, FetchesFor, answered, asked_by, lookups_among, marks_at, marks_of, with_mark, IsSearchError}
 use Rattle.term_search.proofs.Equations.{satisfies-Clause, satisfies-Boost, satisfies-Leaf, leaves_of-Clause, leaves_of-Boost, leaves_of-Leaf, one_more, leaves_next}
 use Rattle.term_search.proofs.Clauses.{marks-more, contains_joined, verdict, verdict-clause}
 use Rattle.term_search.proofs.Leaf.{within_documents}
+use Rattle.term_search.proofs.Fetched.{fetches_same, fetches_more, fetches_front}
 
 -- ---- the three variants
 
@@ -133,6 +134,26 @@ reads_next default pairs i pair before middle now less is first second = record 
 pub reads_ended : (default : List ℕ) (pairs : List (Option Occur × UserInputAst)) (n before now : ℕ) → RisesAtMost before now (2 * length (asked_by default (leaves_among (take n pairs))))
     → RisesAtMost before now (2 * length (asked_by default (leaves_among pairs)))
 reads_ended default pairs n before now rises = record { later = rises.later; bound = omega (arith, rises.bound, asked_front default pairs n) }
+
+-- ---- what is fetched
+
+pub pairs_next : (index : OpenIndex) (contents later : Option (List ℕ)) (default : List ℕ) (pairs : List (Option Occur × UserInputAst)) (i : ℕ) (pair : Option Occur × UserInputAst) (before middle now : ℕ)
+    → later ≡ contents → i < length pairs → pair ≡ get_or pairs i pair
+    → FetchesFor index contents (lookups_among default (leaves_among (take i pairs))) before middle → FetchesFor index later (lookups_of pair.1 default) middle now
+    → FetchesFor index contents (lookups_among default (leaves_among (take (i + 1) pairs))) before now
+pairs_next index contents later default pairs i pair before middle now is less at first second =
+    fetches_same index contents _ _ before now
+    (sym (flat_map-append (lookups_of_leaf default) (leaves_among (take i pairs)) (leaves_of pair.1)) ∙ ap (lookups_among default) (sym (leaves_next pairs i pair less at)))
+    (fetches_more index contents later (lookups_among default (leaves_among (take i pairs))) (lookups_of pair.1 default) before middle now is first second)
+
+pub pairs_ended : (index : OpenIndex) (contents : Option (List ℕ)) (default : List ℕ) (pairs : List (Option Occur × UserInputAst)) (n before now : ℕ)
+    → FetchesFor index contents (lookups_among default (leaves_among (take n pairs))) before now → FetchesFor index contents (lookups_among default (leaves_among pairs)) before now
+pairs_ended index contents default pairs n before now fetches =
+    fetches_same index contents _ _ before now
+    (sym (flat_map-append (lookups_of_leaf default) (leaves_among (take n pairs)) (leaves_among (drop n pairs)))
+    ∙ ap (lookups_among default) (sym (flat_map-append (λ (p : Option Occur × UserInputAst). leaves_of p.1) (take n pairs) (drop n pairs)))
+    ∙ ap (λ ps. lookups_among default (leaves_among ps)) (take-append-drop n pairs))
+    (fetches_front index contents (lookups_among default (leaves_among (take n pairs))) (lookups_among default (leaves_among (drop n pairs))) before now fetches)
 
 -- ---- errors
 

@@ -1,12 +1,11 @@
 -- One turn more of a loop over what is looked for.
-use Rattle.std.proofs.Common.{◌≡◌, ◌∙◌, sym, ap, subst, refl, ℕ, ◌+◌, ◌*◌, ◌<◌, ◌≤◌, Bool, true, false, ◌||◌, List, [], ◌∷◌, ◌++◌, length, take, get_or, Option, Some, slice_get, arith}
+use Rattle.std.proofs.Common.{◌≡◌, ◌∙◌, sym, ap, refl, ℕ, ◌+◌, ◌*◌, ◌<◌, ◌≤◌, Bool, true, false, ◌||◌, List, [], ◌∷◌, length, take, get_or, Option, arith}
 use Rattle.std.proofs.lemmas.List.{take_all}
 use Rattle.std.specs.List.{list_any}
 use Rattle.std.specs.FinSet.{contains}
 use Rattle.std.proofs.lemmas.List.Folds.{list_any-append}
 use Rattle.owned_bytes.specs.Outside.{HasCause, RisesAtMost}
 use Rattle.common_bitset.specs.Numbers.{Numbers}
-use Rattle.common_bitset.specs.Laws.Sets.{contains_empty}
 use Rattle.term_documents.specs.declared.documents.Doc.{Doc}
 use Rattle.index_reading.specs.declared.open.OpenIndex.{OpenIndex}
 use Rattle.index_reading.specs.Opened.{postings_told}
@@ -55,6 +54,3 @@ rises_again before middle now i n first second = record {
 
 pub still_later : (before middle now : ℕ) (P : Type 0) → HasCause before middle ⊥ → HasCause middle now P → HasCause before now ⊥
 still_later before middle now P first second = record { later = omega (arith, first.later, second.later); rose = λ h. absurd h }
-
-pub later_again : (before middle now : ℕ) → before ≤ middle → middle ≤ now → before ≤ now
-later_again before middle now first second = omega arith

@@ -1,15 +1,23 @@
 -- Which numbers the set of a tree has, as far as the tree was searched for.
-use Rattle.std.specs.Prelude.{◌≡◌, ℕ, List, [], ◌∷◌, map, Bool, true, ◌&&◌, ◌||◌, Option, Some, None, option_map, slice_get, Result, Ok, Err, ⊤, length, filter}
+use Rattle.std.specs.Prelude.{◌≡◌, ℕ, ◌+◌, ◌≤◌, List, [], ◌∷◌, map, sum, bytes_eq, Bool, true, ◌&&◌, ◌||◌, Option, Some, None, option_map, slice_get, ⊤, filter}
 use Rattle.std.specs.List.{flat_map}
+use Rattle.std.specs.declared.ops.Range.{Range}
 use Rattle.std.specs.FinSet.{contains, from_list}
+use Rattle.index_file.specs.Header.{width_of}
+use Rattle.index_file.specs.Search.{lookup_cost}
+use Rattle.index_reading.specs.declared.open.OpenIndex.{OpenIndex}
+use Rattle.index_reading.specs.Opened.{postings_told}
 use Rattle.index_reading.specs.declared.errors.IndexError.{IndexError}
-use Rattle.index_reading.specs.declared.errors.IndexError.TheVariants as index
+use Rattle.index_reading.specs.declared.errors.IndexError.TheVariants as errors
 use Rattle.common_bitset.specs.Numbers.{Numbers}
 use Rattle.document_sets.specs.Joined.{Joined}
 use Rattle.query_tree.specs.declared.tree.Occur.{Occur}
 use Rattle.query_tree.specs.declared.tree.Occur.TheVariants.{Should, Must, MustNot}
 use Rattle.query_tree.specs.declared.tree.UserInputLeaf.{UserInputLeaf}
 use Rattle.query_tree.specs.declared.tree.UserInputAst.{UserInputAst}
+use Rattle.sstable_blocks.specs.Codec.{range}
+use Rattle.sstable_blocks.specs.Run.{Block}
+use Rattle.tantivy_sstable.specs.Opened.{blocks_told}
 use Rattle.tantivy_sstable.specs.Opening.{is_compressed_at}
 use Rattle.term_documents.specs.declared.documents.Doc.{Doc}
 use Rattle.term_documents.specs.Documents.{AreValidDocuments, is_field}
@@ -37,12 +45,12 @@ pub record Posts (told : Option Postings) (test : Doc → Bool) (numbers : List 
 
 -- the error of an opened index, as one of a search
 abbrev pub error_of_index : IndexError → SearchError
-error_of_index index.Memory = Memory
-error_of_index index.Read = Read
-error_of_index index.Corrupt = Corrupt
-error_of_index (index.Compressed place) = Compressed place
-error_of_index (index.Version version) = Version version
-error_of_index index.NotYet = NotYet
+error_of_index errors.Memory = Memory
+error_of_index errors.Read = Read
+error_of_index errors.Corrupt = Corrupt
+error_of_index (errors.Compressed place) = Compressed place
+error_of_index (errors.Version version) = Version version
+error_of_index errors.NotYet = NotYet
 
 -- a compressed block stands at the place, where the contents are told
 abbrev pub NamesBlock : Option (List ℕ) → ℕ → Type 0
@@ -118,9 +126,27 @@ pub record Joins (told : Option Postings) (default : List ℕ) (pairs : List (Op
 
 -- ---- what is asked of the file
 
+-- all that is looked for in leaves
+abbrev pub lookups_among : List ℕ → List UserInputLeaf → List Lookup
+lookups_among default leaves = flat_map (lookups_of_leaf default) leaves
+
 -- what leaves ask
 abbrev pub asked_by : List ℕ → List UserInputLeaf → List Lookup
-asked_by default leaves = filter (λ wanted. is_field wanted.field) (flat_map (lookups_of_leaf default) leaves)
+asked_by default leaves = filter (λ wanted. is_field wanted.field) (lookups_among default leaves)
+
+-- one term of a field, as what is looked for
+abbrev pub lookup_of : List ℕ → List ℕ → Lookup
+lookup_of field term = record { field = field; takes = λ found. bytes_eq found term }
+
+-- how many bytes may be fetched for all that is looked for, from an index with these blocks
+abbrev pub lookups_cost : OpenIndex → List (Block (Range ℕ)) → List Lookup → ℕ
+lookups_cost index blocks wanted = sum (map (lookup_cost (width_of index.documents) blocks) wanted)
+
+-- A count of bytes does not fall, and where the blocks and the postings are told it rises by at most what these may cost.
+pub record FetchesFor (index : OpenIndex) (contents : Option (List ℕ)) (wanted : List Lookup) (before now : ℕ) : Type 0 where
+  pub later : before ≤ now
+  pub bound : (blocks : List (Block (Range ℕ))) (postings : Postings) → blocks_told range index.dictionary contents ≡ Some blocks
+      → postings_told index contents ≡ Some postings → now ≤ before + lookups_cost index blocks wanted
 
 -- the set was joined that has this mark
 abbrev pub AddsMark : Option Occur → Numbers → Joined → Joined → Type 0

@@ -147,6 +147,13 @@ pub record ReadsFor (query default : List ℕ) (before now : ℕ) : Type 0 where
 abbrev pub ReadsWithin : List ℕ → ℕ → ℕ → Type 0
 ReadsWithin query before now = (tree : UserInputAst) → tree_of query ≡ grammar.Tree tree → now ≤ before + (4 + 2 * units tree)
 
--- A count of bytes does not fall.
+-- A count of bytes does not fall, and on a told file with a table it rises by at most what the search may cost.
 pub record Fetches (contents : Option (List ℕ)) (query default : List ℕ) (before now : ℕ) : Type 0 where
   pub later : before ≤ now
+  pub bound : (file : List ℕ) (tree : UserInputAst) (most : ℕ) → contents ≡ Some file → table_of file ≢ None
+      → tree_of query ≡ grammar.Tree tree → cost file tree default ≡ Some most → now ≤ before + most
+
+-- the same of the search for a tree
+pub record FetchesTree (contents : Option (List ℕ)) (tree : UserInputAst) (default : List ℕ) (before now : ℕ) : Type 0 where
+  pub later : before ≤ now
+  pub bound : (file : List ℕ) (most : ℕ) → contents ≡ Some file → table_of file ≢ None → cost file tree default ≡ Some most → now ≤ before + most

@@ -1,15 +1,15 @@
 //! The set of the documents that satisfy a tree.
-ghost use Rattle.std.specs.Prelude.{◌≤◌, Some, false, ◌≡◌, ◌*◌, ◌++◌, [], ◌∷◌, length, unwrap_or, IfOk, IfErr, IfSome, OnOk, OnErr, Err, if◌then◌else◌};
+ghost use Rattle.std.specs.Prelude.{Some, false, ◌≡◌, ◌*◌, ◌++◌, [], ◌∷◌, length, map, unwrap_or, IfOk, IfErr, IfSome, OnOk, OnErr, Err, if◌then◌else◌};
 ghost use Rattle.std.specs.List.{list_any};
 ghost use Rattle.owned_bytes.specs.Outside.{HasCause, RisesAtMost};
-ghost use Rattle.index_file.specs.Search.{asked};
+ghost use Rattle.index_file.specs.Search.{asked, lookups_of};
 ghost use Rattle.query_tree.specs.declared.tree.UserInputLeaf.TheVariants.{Literal};
 ghost use Rattle.index_reading.specs.Opened.{LiesIn, AreNumbers, postings_told};
 ghost use Rattle.term_documents.specs.Documents.{IsField, holds};
 ghost use Rattle.term_documents.specs.Documents as spec;
 ghost use Rattle.term_documents.specs.Satisfies.{satisfies, satisfies_clause, satisfies_leaf};
 ghost use Rattle.term_search.specs.Leaves.{has_waiting_leaf, is_waiting_leaf, leaves_among};
-ghost use Rattle.term_search.specs.Members.{Finds, Posts, Adds, Joins, IsSearchError, AddsMark, answered, asked_by};
+ghost use Rattle.term_search.specs.Members.{Finds, Posts, Adds, Joins, IsSearchError, AddsMark, FetchesFor, answered, asked_by, lookup_of, lookups_among};
 
 use crate::SearchError;
 use document_sets::{DocSet, JoinedSets};
@@ -47,7 +47,7 @@ fn numbers_at<H: FileHandle>(
     ensures size { H.size file.new ≡ H.size file.old }
     ensures cause { HasCause (H.faults file.old) (H.faults file.new) (result ≡ Err SearchError.Read) }
     ensures reads { RisesAtMost (H.reads file.old) (H.reads file.new) 2 }
-    ensures fetched { H.fetched file.old ≤ H.fetched file.new }
+    ensures fetched { FetchesFor index.now (H.contents file.old) (lookup_of field.now term.now ∷ []) (H.fetched file.old) (H.fetched file.new) }
 {
     let key = key_of(alloc, field, term)?;
     match index.numbers_at(alloc, file, key.as_slice()) {
@@ -74,7 +74,7 @@ fn add_term<H: FileHandle>(
     ensures size { H.size file.new ≡ H.size file.old }
     ensures cause { HasCause (H.faults file.old) (H.faults file.new) (result ≡ Err SearchError.Read) }
     ensures reads { RisesAtMost (H.reads file.old) (H.reads file.new) (if spec.is_field field.now then 2 else 0) }
-    ensures fetched { H.fetched file.old ≤ H.fetched file.new }
+    ensures fetched { FetchesFor index.now (H.contents file.old) (lookup_of field.now term.now ∷ []) (H.fetched file.old) (H.fetched file.new) }
 {
     if !is_field(field) {
         return Ok(());
@@ -104,7 +104,7 @@ fn add_terms<H: FileHandle>(
     ensures size { H.size file.new ≡ H.size file.old }
     ensures cause { HasCause (H.faults file.old) (H.faults file.new) (result ≡ Err SearchError.Read) }
     ensures reads { RisesAtMost (H.reads file.old) (H.reads file.new) (length terms.now * (if spec.is_field field.now then 2 else 0)) }
-    ensures fetched { H.fetched file.old ≤ H.fetched file.new }
+    ensures fetched { FetchesFor index.now (H.contents file.old) (map (lookup_of field.now) terms.now) (H.fetched file.old) (H.fetched file.new) }
 {
     for term in terms {
         match add_term(alloc, file, index, field, term.as_str(), members) {
@@ -139,7 +139,7 @@ fn literal_members<H: FileHandle>(
     ensures size { H.size file.new ≡ H.size file.old }
     ensures cause { HasCause (H.faults file.old) (H.faults file.new) (result ≡ Err SearchError.Read) }
     ensures reads { RisesAtMost (H.reads file.old) (H.reads file.new) (2 * length (asked_by default_field.now (Literal literal.now ∷ []))) }
-    ensures fetched { H.fetched file.old ≤ H.fetched file.new }
+    ensures fetched { FetchesFor index.now (H.contents file.old) (lookups_among default_field.now (Literal literal.now ∷ [])) (H.fetched file.old) (H.fetched file.new) }
 {
     if literal.prefix {
         return Err(SearchError::NotYet);
@@ -177,7 +177,7 @@ fn set_members<H: FileHandle>(
     ensures size { H.size file.new ≡ H.size file.old }
     ensures cause { HasCause (H.faults file.old) (H.faults file.new) (result ≡ Err SearchError.Read) }
     ensures reads { RisesAtMost (H.reads file.old) (H.reads file.new) (length elements.now * (if spec.is_field field.now then 2 else 0)) }
-    ensures fetched { H.fetched file.old ≤ H.fetched file.new }
+    ensures fetched { FetchesFor index.now (H.contents file.old) (map (lookup_of field.now) elements.now) (H.fetched file.old) (H.fetched file.new) }
 {
     let mut members = DocSet::empty(index.documents);
     match add_terms(alloc, file, index, field, elements, &mut members) {
@@ -201,7 +201,7 @@ fn leaf_members<H: FileHandle>(
     ensures size { H.size file.new ≡ H.size file.old }
     ensures cause { HasCause (H.faults file.old) (H.faults file.new) (result ≡ Err SearchError.Read) }
     ensures reads { RisesAtMost (H.reads file.old) (H.reads file.new) (2 * length (asked_by default_field.now (leaf.now ∷ []))) }
-    ensures fetched { H.fetched file.old ≤ H.fetched file.new }
+    ensures fetched { FetchesFor index.now (H.contents file.old) (lookups_among default_field.now (leaf.now ∷ [])) (H.fetched file.old) (H.fetched file.new) }
 {
     match leaf {
         UserInputLeaf::Literal(literal) => {
@@ -261,7 +261,7 @@ pub fn tree_members<H: FileHandle>(
     ensures size { H.size file.new ≡ H.size file.old }
     ensures cause { HasCause (H.faults file.old) (H.faults file.new) (result ≡ Err SearchError.Read) }
     ensures reads { RisesAtMost (H.reads file.old) (H.reads file.new) (2 * length (asked tree.now default_field.now)) }
-    ensures fetched { H.fetched file.old ≤ H.fetched file.new }
+    ensures fetched { FetchesFor index.now (H.contents file.old) (lookups_of tree.now default_field.now) (H.fetched file.old) (H.fetched file.new) }
 {
     match tree {
         UserInputAst::Clause(pairs) => {
@@ -290,7 +290,7 @@ fn clause_members<H: FileHandle>(
     ensures size { H.size file.new ≡ H.size file.old }
     ensures cause { HasCause (H.faults file.old) (H.faults file.new) (result ≡ Err SearchError.Read) }
     ensures reads { RisesAtMost (H.reads file.old) (H.reads file.new) (2 * length (asked_by default_field.now (leaves_among pairs.now))) }
-    ensures fetched { H.fetched file.old ≤ H.fetched file.new }
+    ensures fetched { FetchesFor index.now (H.contents file.old) (lookups_among default_field.now (leaves_among pairs.now)) (H.fetched file.old) (H.fetched file.new) }
 {
     let mut joined = JoinedSets::new(index.documents);
     for pair in pairs {

@@ -1,8 +1,8 @@
 //! A whole search.
-ghost use Rattle.std.specs.Prelude.{◌≡◌, ◌<◌, ◌≤◌, ◌+◌, ◌*◌, length, Err, IfErr};
+ghost use Rattle.std.specs.Prelude.{◌≡◌, ◌<◌, ◌+◌, ◌*◌, length, Err, IfErr};
 ghost use Rattle.owned_bytes.specs.Outside.{HasCause, RisesAtMost};
 ghost use Rattle.index_file.specs.Search.{asked};
-ghost use Rattle.term_search.specs.Searching.{AnswersQuery, AnswersTold, AnswersExpression, CanBeSearched, IsWhole, IsAnsweredOrRead, IsDamagedOrMemory, ReadsQuery, FindsNumbersTold, IsOfFile, ReadsFor, ReadsWithin, Fetches};
+ghost use Rattle.term_search.specs.Searching.{AnswersQuery, AnswersTold, AnswersExpression, CanBeSearched, IsWhole, IsAnsweredOrRead, IsDamagedOrMemory, ReadsQuery, FindsNumbersTold, IsOfFile, ReadsFor, ReadsWithin, Fetches, FetchesTree};
 
 use crate::members::tree_members;
 use crate::obstacles::obstacles_of;
@@ -81,7 +81,7 @@ fn find_numbers<H: FileHandle>(
     ensures size { H.size file.new ≡ H.size file.old }
     ensures cause { HasCause (H.faults file.old) (H.faults file.new) (result ≡ Err SearchError.Read) }
     ensures reads { RisesAtMost (H.reads file.old) (H.reads file.new) (4 + 2 * length (asked tree.now default_field.now)) }
-    ensures fetched { H.fetched file.old ≤ H.fetched file.new }
+    ensures fetched { FetchesTree (H.contents file.old) tree.now default_field.now (H.fetched file.old) (H.fetched file.new) }
 {
     let index = match OpenIndex::open(alloc, file) {
         Ok(index) => index,

@@ -1,8 +1,8 @@
-use Rattle.std.proofs.Common.{◌≡◌, ◌≤◌, ◌*◌, length, take}
+use Rattle.std.proofs.Common.{◌≡◌, ◌*◌, length, take}
 use Rattle.owned_bytes.specs.Outside.{HasCause, RisesAtMost}
 use Rattle.index_reading.specs.Opened.{postings_told}
 use Rattle.term_search.specs.Leaves.{leaves_among}
-use Rattle.term_search.specs.Members.{Joins, asked_by}
+use Rattle.term_search.specs.Members.{Joins, FetchesFor, asked_by, lookups_among}
 use Rattle.term_search.proofs.members.+members.Given as goal
 
 abbrev pub invariant-clause_members-loop-pair : goal.invariant-clause_members-loop-pair
@@ -13,5 +13,5 @@ invariant-clause_members-loop-pair g l = record {
   size : g.H.HasLen.size l.file ≡ g.H.HasLen.size l.initial.file;
   cause : HasCause (g.H.FileHandle.faults l.initial.file) (g.H.FileHandle.faults l.file) ⊥;
   reads : RisesAtMost (g.H.FileHandle.reads l.initial.file) (g.H.FileHandle.reads l.file) (2 * length (asked_by l.default_field (leaves_among (take l.pair-index l.pairs))));
-  fetched : g.H.FileHandle.fetched l.initial.file ≤ g.H.FileHandle.fetched l.file;
+  fetched : FetchesFor l.index (g.H.FileHandle.contents l.initial.file) (lookups_among l.default_field (leaves_among (take l.pair-index l.pairs))) (g.H.FileHandle.fetched l.initial.file) (g.H.FileHandle.fetched l.file);
 }

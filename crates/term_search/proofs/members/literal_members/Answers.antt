@@ -1,7 +1,8 @@
-use Rattle.std.proofs.Common.{◌≡◌, ◌∙◌, sym, ap, arith, ℕ, ◌<◌}
+use Rattle.std.proofs.Common.{◌≡◌, ◌∙◌, ap, arith}
 use Rattle.common_bitset.specs.Subset.{Subset}
 use Rattle.term_documents.specs.Documents.{holds}
-use Rattle.term_search.proofs.Leaf.{finds_added, finds_nothing, finds_same, slop_holds, literal_holds, literal_asks}
+use Rattle.term_search.proofs.Leaf.{finds_added, finds_nothing, finds_same, slop_holds, literal_holds, literal_asks, literal_looks_for}
+use Rattle.term_search.proofs.Fetched.{fetches_same}
 use Rattle.term_search.proofs.members.literal_members.Goals as goal
 
 pub returns-then-literal-gt0-clause-found : goal.returns-then-literal-gt0-clause-found
@@ -20,3 +21,13 @@ returns-in-Ok-clause-reads g c = literal_asks c.args.default_field.now c.field_o
 
 pub returns-in-Err-clause-reads : goal.returns-in-Err-clause-reads
 returns-in-Err-clause-reads g c = literal_asks c.args.default_field.now c.field_or-field.result.now c.args.literal.now _ _ c.field_or-field.ensures c.add_term.ensures.reads
+
+pub returns-in-Ok-clause-fetched : goal.returns-in-Ok-clause-fetched
+returns-in-Ok-clause-fetched g c =
+    fetches_same _ _ _ _ _ _ (literal_looks_for c.args.default_field.now c.field_or-field.result.now c.as_str.result.now c.args.literal.now c.field_or-field.ensures c.as_str.ensures
+    (let none : c.args.literal.now.slop ≡ 0 = omega (arith, c.if-literal-gt0.false) in none) c.if-literal.false) c.add_term.ensures.fetched
+
+pub returns-in-Err-clause-fetched : goal.returns-in-Err-clause-fetched
+returns-in-Err-clause-fetched g c =
+    fetches_same _ _ _ _ _ _ (literal_looks_for c.args.default_field.now c.field_or-field.result.now c.as_str.result.now c.args.literal.now c.field_or-field.ensures c.as_str.ensures
+    (let none : c.args.literal.now.slop ≡ 0 = omega (arith, c.if-literal-gt0.false) in none) c.if-literal.false) c.add_term.ensures.fetched

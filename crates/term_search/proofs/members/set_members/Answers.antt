@@ -1,5 +1,4 @@
-use Rattle.std.proofs.Common.{◌∙◌, ap}
-use Rattle.document_sets.specs.Joined.{Joined}
+use Rattle.std.proofs.Common.{ap}
 use Rattle.common_bitset.specs.Subset.{Subset}
 use Rattle.term_search.proofs.Leaf.{finds_added}
 use Rattle.term_search.proofs.members.set_members.Goals as goal

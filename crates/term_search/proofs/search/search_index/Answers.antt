@@ -1,4 +1,5 @@
 use Rattle.term_search.proofs.Answering.{printed_refused, printed_answered, answers_told, reads_units}
+use Rattle.term_search.proofs.Costs.{fetches_query}
 use Rattle.term_search.proofs.search.search_index.Goals as goal
 
 pub returns-in-Err-clause-printed : goal.returns-in-Err-clause-printed
@@ -15,3 +16,9 @@ returns-in-Ok-find_numbers-clause-reads_within g c = reads_units c.args.query.no
 
 pub returns-in-Err-find_numbers-clause-reads_within : goal.returns-in-Err-find_numbers-clause-reads_within
 returns-in-Err-find_numbers-clause-reads_within g c = reads_units c.args.query.now c.args.default_field.now c.in-Ok.tree _ _ c.in-Ok.ensures c.find_numbers.ensures.reads
+
+pub returns-in-Ok-find_numbers-clause-fetched : goal.returns-in-Ok-find_numbers-clause-fetched
+returns-in-Ok-find_numbers-clause-fetched g c = fetches_query _ c.args.query.now c.args.default_field.now c.in-Ok.tree _ _ c.in-Ok.ensures c.find_numbers.ensures.fetched
+
+pub returns-in-Err-find_numbers-clause-fetched : goal.returns-in-Err-find_numbers-clause-fetched
+returns-in-Err-find_numbers-clause-fetched g c = fetches_query _ c.args.query.now c.args.default_field.now c.in-Ok.tree _ _ c.in-Ok.ensures c.find_numbers.ensures.fetched
