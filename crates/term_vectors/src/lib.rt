@@ -8,4 +8,6 @@ mod dates;
 #[cfg(test)]
 mod expressions;
 #[cfg(test)]
+mod files;
+#[cfg(test)]
 mod wire;
