@@ -10,4 +10,6 @@ mod expressions;
 #[cfg(test)]
 mod files;
 #[cfg(test)]
+mod slices;
+#[cfg(test)]
 mod wire;
