@@ -9,8 +9,12 @@ use tantivy_bitpacker::{BitPacker, BitUnpacker, filter_vec_lanes, filter_vec_sca
 const WIDTH: u8 = 17;
 
 const GREATEST: u64 = 0x1_ffff;
-// The most numbers that a run may ask for.
-const LIMIT: u32 = 100_000_000;
+
+// The most numbers that are filtered.
+const LIMIT: usize = 100_000_000;
+
+// Each call is timed so often, and the least time is printed: on a busy machine the others tell of the machine.
+const ROUNDS: u32 = 7;
 
 fn numbers(alloc: Global, count: u32) -> Result<Vec<u64>, AllocError> {
     let mut found = Vec::with_capacity(alloc, count as usize)?;
@@ -46,14 +50,16 @@ fn time_ranges<R: Clock + Print + AllocGlobal>(
 {
     let unpacker = BitUnpacker::new(17);
     let mut output = vec![in rt.alloc(); 0u64; count as usize]?;
-    // the first call touches the memory
-    unpacker.get_range(0, bytes, output.as_mut_slice());
-    let start = Instant::now(rt)?;
-    unpacker.get_range(0, bytes, output.as_mut_slice());
-    let fast = start.elapsed(rt)?.as_micros();
-    let start = Instant::now(rt)?;
-    plain::get_range(&unpacker, 0, bytes, output.as_mut_slice());
-    let slow = start.elapsed(rt)?.as_micros();
+    let mut fast = u128::MAX;
+    let mut slow = u128::MAX;
+    for _ in 0..ROUNDS {
+        let start = Instant::now(rt)?;
+        unpacker.get_range(0, bytes, output.as_mut_slice());
+        fast = start.elapsed(rt)?.as_micros().min(fast);
+        let start = Instant::now(rt)?;
+        plain::get_range(&unpacker, 0, bytes, output.as_mut_slice());
+        slow = start.elapsed(rt)?.as_micros().min(slow);
+    }
     println!(rt; "packed: get_range {fast} us, plain {slow} us")?;
     Ok(())
 }
@@ -62,15 +68,17 @@ fn time_ids<R: Clock + Print + AllocGlobal>(rt: &R, bytes: &[u8], count: u32) ->
     requires { count * 17 ≤ 8 * length bytes.now }
 {
     let unpacker = BitUnpacker::new(17);
-    let mut ids = Vec::with_capacity(rt.alloc(), count as usize)?;
-    // the first call touches the memory
-    unpacker.get_ids_for_value_range(1_000..=60_000, 0..count, bytes, &mut ids)?;
-    let start = Instant::now(rt)?;
-    unpacker.get_ids_for_value_range(1_000..=60_000, 0..count, bytes, &mut ids)?;
-    let fast = start.elapsed(rt)?.as_micros();
-    let start = Instant::now(rt)?;
-    plain::get_ids_for_value_range(&unpacker, 1_000..=60_000, 0..count, bytes, &mut ids)?;
-    let slow = start.elapsed(rt)?.as_micros();
+    let mut ids = Vec::new(rt.alloc());
+    let mut fast = u128::MAX;
+    let mut slow = u128::MAX;
+    for _ in 0..ROUNDS {
+        let start = Instant::now(rt)?;
+        unpacker.get_ids_for_value_range(1_000..=60_000, 0..count, bytes, &mut ids)?;
+        fast = start.elapsed(rt)?.as_micros().min(fast);
+        let start = Instant::now(rt)?;
+        plain::get_ids_for_value_range(&unpacker, 1_000..=60_000, 0..count, bytes, &mut ids)?;
+        slow = start.elapsed(rt)?.as_micros().min(slow);
+    }
     let found = ids.len();
     println!(rt; "packed: get_ids_for_value_range {fast} us, plain {slow} us, {found} found")?;
     Ok(())
@@ -84,20 +92,33 @@ fn low_halves(alloc: Global, values: &[u64]) -> Result<Vec<u32>, AllocError> {
     Ok(found)
 }
 
-fn time_filters<R: Clock + Print + AllocGlobal>(rt: &R, values: &[u64]) -> anyhow::Result<()> {
-    let mut left = low_halves(rt.alloc(), values)?;
-    let mut right = low_halves(rt.alloc(), values)?;
-    if left.len() > LIMIT as usize || right.len() > LIMIT as usize {
-        return Ok(());
-    }
+// How long the filter in lanes takes, and the one that takes one number at a time.
+fn filter_round<R: Clock + AllocGlobal>(rt: &R, numbers: &[u32]) -> anyhow::Result<(u128, u128)>
+    requires { length numbers.now ≤ LIMIT }
+{
+    let mut left = numbers.to_vec(rt.alloc())?;
+    let mut right = numbers.to_vec(rt.alloc())?;
     let start = Instant::now(rt)?;
     filter_vec_lanes(1_000..=60_000, 0, &mut left);
     let lanes = start.elapsed(rt)?.as_micros();
     let start = Instant::now(rt)?;
     filter_vec_scalar(1_000..=60_000, 0, &mut right);
-    let scalar = start.elapsed(rt)?.as_micros();
-    let found = left.len();
-    println!(rt; "packed: filter in lanes {lanes} us, scalar {scalar} us, {found} found")?;
+    Ok((lanes, start.elapsed(rt)?.as_micros()))
+}
+
+fn time_filters<R: Clock + Print + AllocGlobal>(rt: &R, values: &[u64]) -> anyhow::Result<()> {
+    let numbers = low_halves(rt.alloc(), values)?;
+    if numbers.len() > LIMIT {
+        return Ok(());
+    }
+    let mut fast = u128::MAX;
+    let mut slow = u128::MAX;
+    for _ in 0..ROUNDS {
+        let (lanes, scalar) = filter_round(rt, numbers.as_slice())?;
+        fast = lanes.min(fast);
+        slow = scalar.min(slow);
+    }
+    println!(rt; "packed: filter in lanes {fast} us, scalar {slow} us")?;
     Ok(())
 }
 

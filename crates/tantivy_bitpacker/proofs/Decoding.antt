@@ -1,6 +1,6 @@
 -- A range of packed numbers, decoded piece by piece into a list.
-use Rattle.std.proofs.Common.{◌≡◌, ℕ, ◌+◌, ◌-◌, ◌*◌, ◌/◌, ◌%◌, ◌<◌, ◌≤◌, List, [], ◌∷◌, ◌++◌, length, take, drop, set, ap, sym, ◌∙◌, arith, append_assoc, append-nil, get_or, refl}
-use Rattle.std.proofs.lemmas.List.{take_more, take_more_set, take_rest, take_all}
+use Rattle.std.proofs.Common.{◌≡◌, ℕ, ◌+◌, ◌-◌, ◌*◌, ◌/◌, ◌%◌, ◌<◌, ◌≤◌, List, [], ◌∷◌, ◌++◌, length, take, drop, set, ap, sym, ◌∙◌, arith, append_assoc, append-nil}
+use Rattle.std.proofs.lemmas.List.{take_more_set, take_rest, take_all}
 use Rattle.std.proofs.lemmas.Nat.{mul-le}
 use Rattle.tantivy_bitpacker.specs.Packed.{bits_from, unpacked_from}
 use Rattle.tantivy_bitpacker.proofs.Unpacking.{unpacked_from-push, unpacked_from-add, unpacked_from-drop}
@@ -70,23 +70,3 @@ Decoded-next start from i width value old out bytes le room so_far is =
     take_more_set out i value room ∙ ap (λ l. l ++ value ∷ []) so_far ∙ append_assoc (take from old) (unpacked_from (start + from) (i - from) width bytes) (value ∷ [])
     ∙ ap (λ v. take from old ++ (unpacked_from (start + from) (i - from) width bytes ++ v ∷ [])) (is ∙ ap (λ n. bits_from (n * width) width bytes) place)
     ∙ ap (λ l. take from old ++ l) (sym (unpacked_from-push (start + from) (i - from) width bytes)) ∙ ap (λ n. take from old ++ unpacked_from (start + from) n width bytes) count
-
--- one more of some values
-pub Put-more : (at i value : ℕ) (old out values : List ℕ) → take (at + i) out ≡ take at old ++ take i values → at + i < length out → i < length values → value ≡ get_or values i 0
-    → take (at + (i + 1)) (set out (at + i) value) ≡ take at old ++ take (i + 1) values
-Put-more at i value old out values so_far room below is =
-    let next : at + (i + 1) ≡ at + i + 1 = omega arith in
-    ap (λ n. take n (set out (at + i) value)) next ∙ take_more_set out (at + i) value room ∙ ap (λ l. l ++ value ∷ []) so_far ∙ append_assoc (take at old) (take i values) (value ∷ [])
-    ∙ ap (λ v. take at old ++ (take i values ++ v ∷ [])) is ∙ ap (λ l. take at old ++ l) (sym (take_more values i 0 below))
-
--- one more piece
-pub Pieces-more : (start done count width : ℕ) (out next bytes : List ℕ) → take done out ≡ unpacked_from start done width bytes → take (done + count) next ≡ take done out ++ unpacked_from (start + done) count width bytes
-    → take (done + count) next ≡ unpacked_from start (done + count) width bytes
-Pieces-more start done count width out next bytes so_far more = more ∙ ap (λ l. l ++ unpacked_from (start + done) count width bytes) so_far ∙ sym (unpacked_from-add start done count width bytes)
-
-pub Pieces-begin : (start width : ℕ) (out bytes : List ℕ) → take 0 out ≡ unpacked_from start 0 width bytes
-unfolding unpacked_from
-Pieces-begin start width out bytes = refl
-
-pub Pieces-end : (start done width : ℕ) (out bytes : List ℕ) → done ≡ length out → take done out ≡ unpacked_from start done width bytes → out ≡ unpacked_from start (length out) width bytes
-Pieces-end start done width out bytes all is = sym (take_all done out (omega arith)) ∙ is ∙ ap (λ n. unpacked_from start n width bytes) all

@@ -7,8 +7,7 @@ use Rattle.std.proofs.lemmas.Bool.Decides.{nat_tests}
 use Rattle.std.specs.Int.{is_in_range}
 use Rattle.tantivy_bitpacker.specs.Within.{places_within, ids_within, Filtering}
 use Rattle.tantivy_bitpacker.specs.Packed.{bits_from, unpacked_from}
-use Rattle.tantivy_bitpacker.proofs.Unpacking.{unpacked_from-step, unpacked_from-none, bits_from-lt, get_or-unpacked_from}
-use Rattle.std.proofs.Math.Nat.{pow-le-pow_right}
+use Rattle.tantivy_bitpacker.proofs.Unpacking.{unpacked_from-step, unpacked_from-none, unpacked_from-add, length-unpacked_from, bits_from-fits}
 
 pub places_within-append : (low high place : ℕ) (xs ys : List ℕ) → places_within low high place (xs ++ ys) ≡ places_within low high place xs ++ places_within low high (place + length xs) ys
 unfolding places_within
@@ -131,9 +130,6 @@ lent_back n m ys xs long all =
 
 -- ---- numbers below 2^32
 
-bits-narrow : (place width : ℕ) (bytes : List ℕ) → width ≤ 32 → bits_from place width bytes < 2 ^ 32
-bits-narrow place width bytes narrow = let le : 2 ^ width ≤ 2 ^ 32 = pow-le-pow_right (omega arith) narrow in omega (arith, bits_from-lt place width bytes)
-
 same_if : (b c : Bool) (place : ℕ) (ps qs : List ℕ) → b ≡ c → ps ≡ qs → cond b (place ∷ ps) ps ≡ cond c (place ∷ qs) qs
 same_if b c place ps qs e f = ap (λ x. cond x (place ∷ ps) ps) e ∙ ap (λ l. cond c (place ∷ l) l) f
 
@@ -146,30 +142,31 @@ pub places_within-narrow : (low high place first count width : ℕ) (bytes : Lis
 unfolding places_within unpacked_from
 places_within-narrow low high place first zero width bytes narrow = refl
 places_within-narrow low high place first (suc count) width bytes narrow =
-    same_if _ _ place _ _ (within-narrow low high (bits_from (first * width) width bytes) (bits-narrow (first * width) width bytes narrow)) (places_within-narrow low high (place + 1) (first + 1) count width bytes narrow)
+    same_if _ _ place _ _ (within-narrow low high (bits_from (first * width) width bytes) (bits_from-fits (first * width) width 32 (bits_from (first * width) width bytes) bytes refl narrow)) (places_within-narrow low high (place + 1) (first + 1) count width bytes narrow)
 
-within-above : (low high value : ℕ) → value < 2 ^ 32 → 2 ^ 32 - 1 < low → is_in_range low high value ≡ false
-within-above low high value small above = grind (arith, nat_tests)
+-- ---- blocks of numbers
 
--- a lower bound above 32 bits leaves none
-pub places_within-above : (low high place first count width : ℕ) (bytes : List ℕ) → width ≤ 32 → 2 ^ 32 - 1 < low → places_within low high place (unpacked_from first count width bytes) ≡ []
-unfolding places_within unpacked_from
-places_within-above low high place first zero width bytes narrow above = refl
-places_within-above low high place first (suc count) width bytes narrow above =
-    same_if _ _ place _ _ (within-above low high (bits_from (first * width) width bytes) (bits-narrow (first * width) width bytes narrow) above) (places_within-above low high (place + 1) (first + 1) count width bytes narrow above)
+-- the ids of a block, and those behind it
+pub ids_within-block : (found next more : List ℕ) (low high first count end width : ℕ) (bytes all : List ℕ) → found ++ ids_within low high first end width bytes ≡ all → first + count ≤ end
+    → more ≡ places_within low high first (unpacked_from first count width bytes) → next ≡ found ++ more → next ++ ids_within low high (first + count) end width bytes ≡ all
+ids_within-block found next more low high first count end width bytes all so_far within is grown =
+    let split : end - first ≡ count + (end - (first + count)) = omega arith in
+    let block = unpacked_from first count width bytes in
+    let behind = unpacked_from (first + count) (end - (first + count)) width bytes in
+    let whole : ids_within low high first end width bytes ≡ places_within low high first block ++ ids_within low high (first + count) end width bytes =
+    ap (λ n. places_within low high first (unpacked_from first n width bytes)) split ∙ ap (places_within low high first) (unpacked_from-add first count (end - (first + count)) width bytes)
+    ∙ places_within-append low high first block behind ∙ ap (λ n. places_within low high first block ++ places_within low high (first + n) behind) (length-unpacked_from first count width bytes) in
+    ap (λ l. l ++ ids_within low high (first + count) end width bytes) (grown ∙ ap (λ l. found ++ l) is)
+    ∙ append_assoc found (places_within low high first block) (ids_within low high (first + count) end width bytes)
+    ∙ ap (λ l. found ++ l) (sym whole) ∙ so_far
 
-pub unpacked_from-narrow : (first count width : ℕ) (bytes : List ℕ) → width ≤ 32 → (k : ℕ) → k < count → get_or (unpacked_from first count width bytes) k 0 < 2 ^ 32
-unpacked_from-narrow first count width bytes narrow k below = rw (get_or-unpacked_from first count width bytes k 0 below) (bits-narrow ((first + k) * width) width bytes narrow)
+-- the bounds in 32 bits: the lower one and how far the upper one, cut to 32 bits, lies above it
+pub ids_within-narrow : (found : List ℕ) (low high start end width : ℕ) (bytes : List ℕ) → width ≤ 32 → low ≤ min high (2 ^ 32 - 1)
+    → found ≡ ids_within low (low + (min high (2 ^ 32 - 1) - low)) start end width bytes → found ≡ ids_within low high start end width bytes
+ids_within-narrow found low high start end width bytes narrow le is =
+    let top : low + (min high (2 ^ 32 - 1) - low) ≡ min high (2 ^ 32 - 1) = omega arith in
+    is ∙ ap (λ h. ids_within low h start end width bytes) top ∙ places_within-narrow low high start start (end - start) width bytes narrow
 
-pub lent_whole : (m : ℕ) (ys xs : List ℕ) → length ys ≡ length xs → m ≡ length xs → take m (ys ++ drop (length ys) xs) ≡ ys
-lent_whole m ys xs long all =
-    let none : drop (length ys) xs ≡ [] = drop_all (length ys) xs (omega arith) in
-    ap (λ l. take m (ys ++ l)) none ∙ ap (take m) (append-nil ys) ∙ take_all m ys (omega arith)
-
--- ids filtered out of numbers that were decoded into a list that was lent
-pub ids_from_batch : (low high first end width m n start stop : ℕ) (found ys xs bytes : List ℕ) → found ≡ places_within start stop first (take m (ys ++ drop (length ys) xs)) → start ≡ low → stop ≡ min high (2 ^ 32 - 1)
-    → length ys ≡ length xs → m ≡ length xs → ys ≡ unpacked_from first n width bytes → n ≡ end - first → width ≤ 32 → found ≡ ids_within low high first end width bytes
-ids_from_batch low high first end width m n start stop found ys xs bytes is from to long all decoded count narrow =
-    is ∙ ap (places_within start stop first) (lent_whole m ys xs long all ∙ decoded ∙ ap (λ k. unpacked_from first k width bytes) count)
-    ∙ ap (λ s. places_within s stop first (unpacked_from first (end - first) width bytes)) from ∙ ap (λ s. places_within low s first (unpacked_from first (end - first) width bytes)) to
-    ∙ places_within-narrow low high first first (end - first) width bytes narrow
+pub ids_within-reversed : (low high start end width : ℕ) (bytes : List ℕ) → width ≤ 32 → min high (2 ^ 32 - 1) < low → ids_within low high start end width bytes ≡ []
+ids_within-reversed low high start end width bytes narrow reversed =
+    sym (places_within-narrow low high start start (end - start) width bytes narrow) ∙ places_within-reversed low (min high (2 ^ 32 - 1)) start (unpacked_from start (end - start) width bytes) reversed

@@ -1,7 +1,7 @@
 -- Laws of the bits that stand in bytes: what a part of the bytes tells of the whole.
 use Rattle.std.proofs.Common.{◌≡◌, ℕ, zero, suc, ◌+◌, ◌-◌, ◌*◌, ◌/◌, ◌%◌, ◌^◌, ◌<◌, ◌≤◌, List, [], ◌∷◌, ◌++◌, length, take, drop, get_or, refl, ap, ◌∙◌, arith}
 use Rattle.std.proofs.lemmas.Nat.{shr-shr, pow_pos}
-use Rattle.std.proofs.Math.Nat.{mod-lt}
+use Rattle.std.proofs.Math.Nat.{mod-lt, pow-le-pow_right}
 use Rattle.tantivy_bitpacker.specs.Packed.{as_number, bits_from, unpacked_from}
 use Rattle.tantivy_bitpacker.proofs.Powers.{field_within, field-add_high}
 use Rattle.tantivy_bitpacker.proofs.Bytes.{as_number-take, as_number-drop, as_number-append}
@@ -9,6 +9,12 @@ use Rattle.tantivy_bitpacker.proofs.Bytes.{as_number-take, as_number-drop, as_nu
 pub bits_from-lt : (place width : ℕ) (bytes : List ℕ) → bits_from place width bytes < 2 ^ width
 unfolding bits_from
 bits_from-lt place width bytes = mod-lt (as_number bytes / 2 ^ place) (pow_pos width)
+
+-- and fits wherever numbers of its width do
+pub bits_from-fits : (place width most value : ℕ) (bytes : List ℕ) → value ≡ bits_from place width bytes → width ≤ most → value < 2 ^ most
+bits_from-fits place width most value bytes is fit =
+    let le : 2 ^ width ≤ 2 ^ most = pow-le-pow_right (omega arith) fit in
+    omega (arith, is, bits_from-lt place width bytes)
 
 -- bits within the first bytes
 pub bits_from-take : (place width n : ℕ) (bytes : List ℕ) → place + width ≤ 8 * n → bits_from place width (take n bytes) ≡ bits_from place width bytes

@@ -1,19 +1,23 @@
 // A reader of numbers packed at one width.
-ghost use Rattle.std.specs.Prelude.{◌≡◌, ◌+◌, ◌*◌, ◌%◌, ◌^◌, ◌<◌, ◌≤◌, ◌++◌, ◌-◌, ℕ, length, take, drop, replicate, slice_index, OnOk};
+ghost use Rattle.std.specs.Prelude.{◌≡◌, ◌+◌, ◌*◌, ◌%◌, ◌^◌, ◌<◌, ◌≤◌, ◌++◌, ◌-◌, length, take, drop, map, replicate, OnOk};
 ghost use Rattle.std.specs.Range.{range_inclusive_start, range_inclusive_end};
-ghost use Rattle.tantivy_bitpacker.specs.Within.{ids_within};
+ghost use Rattle.tantivy_bitpacker.specs.Within.{ids_within, places_within};
 ghost use Rattle.tantivy_bitpacker.specs.Packed.{as_number, bits_from, unpacked_from};
 
-use crate::groups::unpack_groups_of;
-use crate::{filter_vec_in_place, plain};
+use crate::filter_vec::filter_lanes;
+use crate::groups::{Unpacked, unpack_groups_of};
+use crate::plain;
 use std::alloc::AllocError;
 use std::marker::Model;
 use std::ops::{Range, RangeInclusive};
 
 const GREATEST_U32: u64 = u32::MAX as u64;
 
-// How many numbers are decoded before they are narrowed.
-const PIECE: usize = 64;
+// The greatest width of which eight numbers are unpacked at once: each then lies within eight bytes, wherever it begins.
+const WIDEST_OF_GROUP: u8 = 56;
+
+// How many numbers are decoded before they are filtered, so that they stay in the nearest cache.
+const BLOCK: usize = 1024;
 
 /// Reads numbers that are packed at one width, of 0 to 56 bits or of 64.
 #[derive(Clone, Copy, Debug)]
@@ -72,6 +76,20 @@ impl BitUnpacker {
         requires within { (start_idx + length output.old) * self.now ≤ 8 * length bytes.now }
         ensures { output.new ≡ unpacked_from start_idx (length output.old) self.now bytes.now }
     {
+        if self.num_bits > WIDEST_OF_GROUP {
+            return plain::get_range(self, start_idx, bytes, output);
+        }
+        self.unpack(start_idx, bytes, output);
+    }
+
+    // The numbers from the place `start_idx` on, as many as `output` holds.
+    fn unpack<T: Unpacked>(&self, start_idx: u32, bytes: &[u8], output: &mut [T])
+        requires grouped { self.now ≤ WIDEST_OF_GROUP }
+        requires fit { self.now ≤ T.most_bits }
+        requires places { start_idx + length output.old ≤ 2 ^ 32 }
+        requires within { (start_idx + length output.old) * self.now ≤ 8 * length bytes.now }
+        ensures { map T.number output.new ≡ unpacked_from start_idx (length output.old) self.now bytes.now }
+    {
         let start = start_idx as usize;
         let count = output.len();
         let lead = ((8 - start % 8) % 8).min(count);
@@ -82,30 +100,46 @@ impl BitUnpacker {
 
     // Decodes the numbers from `from` to `to` of those from `start` on, one by one.
     #[inline]
-    fn get_each(&self, start: usize, from: usize, to: usize, bytes: &[u8], output: &mut [u64])
+    fn get_each<T: Unpacked>(
+        &self,
+        start: usize,
+        from: usize,
+        to: usize,
+        bytes: &[u8],
+        output: &mut [T],
+    )
+        requires fit { self.now ≤ T.most_bits }
         requires ordered { from ≤ to }
         requires inside { to ≤ length output.old }
         requires places { start + length output.old ≤ 2 ^ 32 }
         requires within { (start + length output.old) * self.now ≤ 8 * length bytes.now }
-        ensures { take to output.new ≡ take from output.old ++ unpacked_from (start + from) (to - from) self.now bytes.now }
+        ensures { take to (map T.number output.new) ≡ take from (map T.number output.old) ++ unpacked_from (start + from) (to - from) self.now bytes.now }
     {
         for i in from..to {
-            output[i] = self.get((start + i) as u32, bytes);
+            output[i] = T::of(self.get((start + i) as u32, bytes));
         }
     }
 
     // Decodes the groups of eight from `from` on that begin with a whole byte and have a word of bytes left behind
     // them, and answers where they end.
-    fn get_groups(&self, start: usize, from: usize, bytes: &[u8], output: &mut [u64]) -> usize
+    fn get_groups<T: Unpacked>(
+        &self,
+        start: usize,
+        from: usize,
+        bytes: &[u8],
+        output: &mut [T],
+    ) -> usize
+        requires grouped { self.now ≤ WIDEST_OF_GROUP }
+        requires fit { self.now ≤ T.most_bits }
         requires inside { from ≤ length output.old }
         requires places { start + length output.old ≤ 2 ^ 32 }
         requires within { (start + length output.old) * self.now ≤ 8 * length bytes.now }
         ensures after { from ≤ result }
         ensures bound { result ≤ length output.old }
-        ensures decoded { take result output.new ≡ take from output.old ++ unpacked_from (start + from) (result - from) self.now bytes.now }
+        ensures decoded { take result (map T.number output.new) ≡ take from (map T.number output.old) ++ unpacked_from (start + from) (result - from) self.now bytes.now }
     {
         let first = start + from;
-        if self.num_bits > 56 || first % 8 != 0 {
+        if first % 8 != 0 {
             return from;
         }
         let width = self.num_bits as usize;
@@ -131,66 +165,63 @@ impl BitUnpacker {
         ensures { OnOk result (positions.new.items
             ≡ ids_within (range_inclusive_start range) (range_inclusive_end range) id_range.start id_range.end self.now bytes.now) }
     {
-        if self.num_bits > 32 || id_range.end < id_range.start {
+        if self.num_bits > 32 {
             return plain::get_ids_for_value_range(self, range, id_range, bytes, positions);
         }
+        positions.clear();
         let low = *range.start();
-        let high = *range.end();
-        if low > GREATEST_U32 {
-            positions.clear();
+        let high = (*range.end()).min(GREATEST_U32);
+        if high < low {
             return Ok(());
         }
-        positions.resize((id_range.end - id_range.start) as usize, 0)?;
-        self.get_batch_u32s(id_range.start, bytes, positions.as_mut_slice());
-        filter_vec_in_place(
-            low as u32..=high.min(GREATEST_U32) as u32,
-            id_range.start,
-            positions,
-        );
+        self.push_ids(low as u32, (high - low) as u32, id_range, bytes, positions)
+    }
+
+    // Adds the ids of `id_range` whose number lies from `low` to `low + span`, block by block.
+    fn push_ids(
+        &self,
+        low: u32,
+        span: u32,
+        id_range: Range<u32>,
+        bytes: &[u8],
+        positions: &mut Vec<u32>,
+    ) -> Result<(), AllocError>
+        requires narrow { self.now ≤ 32 }
+        requires fits { low + span < 2 ^ 32 }
+        requires within { id_range.end * self.now ≤ 8 * length bytes.now }
+        ensures { OnOk result (positions.new.items ≡ positions.old.items ++ ids_within low (low + span) id_range.start id_range.end self.now bytes.now) }
+    {
+        let mut block = [0; BLOCK];
+        let mut first = id_range.start;
+        while first < id_range.end {
+            let count = (BLOCK as u32 - first % 8).min(id_range.end - first);
+            let numbers = &mut block[..count as usize];
+            let kept = self.ids_of_block(low, span, first, bytes, numbers);
+            positions.extend_from_slice(&numbers[..kept])?;
+            first += count;
+        }
         Ok(())
     }
 
-    // The numbers from the place `start_idx` on, as many as `output` holds, each below 2^32.
-    fn get_batch_u32s(&self, start_idx: u32, bytes: &[u8], output: &mut [u32])
+    // Decodes as many numbers from `first` on as the block holds, and filters them in place: the ids of those from
+    // `low` to `low + span` stand in front, and their count is the answer.
+    fn ids_of_block(
+        &self,
+        low: u32,
+        span: u32,
+        first: u32,
+        bytes: &[u8],
+        block: &mut [u32],
+    ) -> usize
         requires narrow { self.now ≤ 32 }
-        requires places { start_idx + length output.old ≤ 2 ^ 32 }
-        requires within { (start_idx + length output.old) * self.now ≤ 8 * length bytes.now }
-        ensures { output.new ≡ unpacked_from start_idx (length output.old) self.now bytes.now }
+        requires fits { low + span < 2 ^ 32 }
+        requires places { first + length block.old ≤ 2 ^ 32 }
+        requires within { (first + length block.old) * self.now ≤ 8 * length bytes.now }
+        ensures bound { result ≤ length block.old }
+        ensures kept { take result block.new ≡ places_within low (low + span) first (unpacked_from first (length block.old) self.now bytes.now) }
     {
-        let start = start_idx as usize;
-        let mut done = 0;
-        while done < output.len() {
-            let count = (PIECE - (start + done) % 8).min(output.len() - done);
-            self.get_piece(start + done, count, bytes, done, output);
-            done += count;
-        }
-    }
-
-    // Puts so many numbers at `at`.
-    fn get_piece(&self, start: usize, count: usize, bytes: &[u8], at: usize, output: &mut [u32])
-        requires narrow { self.now ≤ 32 }
-        requires few { count ≤ PIECE }
-        requires room { at + count ≤ length output.old }
-        requires places { start + count ≤ 2 ^ 32 }
-        requires below { start < 2 ^ 32 }
-        requires within { (start + count) * self.now ≤ 8 * length bytes.now }
-        ensures { take (at + count) output.new ≡ take at output.old ++ unpacked_from start count self.now bytes.now }
-    {
-        let mut buffer = [0; PIECE];
-        let piece = &mut buffer[..count];
-        self.get_range(start as u32, bytes, piece);
-        put_narrow(piece, at, output);
-    }
-}
-
-// Puts the values, each below 2^32, at `at`.
-fn put_narrow(values: &[u64], at: usize, output: &mut [u32])
-    requires narrow { (k : ℕ) → k < length values.now → slice_index values.now k < 2 ^ 32 }
-    requires room { at + length values.now ≤ length output.old }
-    ensures { take (at + length values.now) output.new ≡ take at output.old ++ values.now }
-{
-    for i in 0..values.len() {
-        output[at + i] = values[i] as u32;
+        self.unpack(first, bytes, block);
+        filter_lanes(low, span, first, block)
     }
 }
 

@@ -74,7 +74,7 @@ pub fn filter_vec_lanes(range: RangeInclusive<u32>, offset: u32, output: &mut Ve
 }
 
 // Puts the places of the values from `low` to `low + span` in front, and answers how many they are.
-fn filter_lanes(low: u32, span: u32, offset: u32, values: &mut [u32]) -> usize
+pub(crate) fn filter_lanes(low: u32, span: u32, offset: u32, values: &mut [u32]) -> usize
     requires fits { low + span < 2 ^ 32 }
     requires places { offset + length values.old ≤ 2 ^ 32 }
     ensures bound { result ≤ length values.old }
