@@ -4,8 +4,6 @@
 mod bitset;
 mod iterated;
 mod read_only;
-#[cfg(test)]
-mod tests;
 mod tinyset;
 mod words;
 

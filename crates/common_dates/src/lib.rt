@@ -3,7 +3,5 @@
 
 mod date_time;
 mod serialized;
-#[cfg(test)]
-mod tests;
 
 pub use date_time::{DateTime, DateTimePrecision};

@@ -3,8 +3,6 @@
 
 mod groups;
 mod laws;
-#[cfg(test)]
-mod tests;
 
 pub use groups::{GroupByIterator, GroupByIteratorExtended, GroupIterator};
 pub use laws::groups_are_runs;

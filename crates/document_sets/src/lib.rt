@@ -3,8 +3,6 @@
 
 mod document_set;
 mod joined;
-#[cfg(test)]
-mod tests;
 
 pub use document_set::DocSet;
 pub use joined::JoinedSets;

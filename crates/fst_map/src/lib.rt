@@ -6,6 +6,3 @@ mod map;
 
 pub use automaton::{AlwaysMatch, Automaton, Exact, StartsWith, Union};
 pub use map::{MapBuilder, MapError};
-
-#[cfg(test)]
-mod tests;

@@ -8,8 +8,6 @@ mod errors;
 mod lookup;
 mod open;
 mod parts;
-#[cfg(test)]
-mod tests;
 mod unpack;
 
 pub use errors::IndexError;

@@ -10,6 +10,3 @@ mod write;
 
 pub use errors::WriteError;
 pub use write::write_index;
-
-#[cfg(test)]
-mod tests;

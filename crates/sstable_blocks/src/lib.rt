@@ -21,6 +21,3 @@ pub use delta_writer::DeltaWriter;
 pub use errors::{BlockError, DeltaError, ValueError};
 pub use range::{RangeValueReader, RangeValueWriter};
 pub use value::{StoredValue, ValueReader, ValueWriter};
-
-#[cfg(test)]
-mod tests;

@@ -36,12 +36,12 @@ impl Unpacked for u32 {
     }
 }
 
-// Calls the function at the width, which is one of those that are listed.
+// Calls the function of a type and a width that the compiler knows, at the width, which is one of those that are listed.
 macro_rules! at_width {
-    ($width:expr, $call:ident $arguments:tt, $($known:literal)*, $last:literal) => {
+    ($width:expr, $call:ident::<$to:ident> $arguments:tt, $($known:literal)*, $last:literal) => {
         match $width {
-            $($known => $call::<T, $known> $arguments,)*
-            _ => $call::<T, $last> $arguments,
+            $($known => $call::<$to, $known> $arguments,)*
+            _ => $call::<$to, $last> $arguments,
         }
     };
 }
@@ -116,7 +116,7 @@ pub(crate) fn unpack_groups_of<T: Unpacked>(
 {
     at_width!(
         width,
-        unpack_groups(bytes, groups, at, output),
+        unpack_groups::<T>(bytes, groups, at, output),
         0 1 2 3 4 5 6 7 8 9 10 11 12 13 14 15 16 17 18 19 20 21 22 23 24 25 26 27
         28 29 30 31 32 33 34 35 36 37 38 39 40 41 42 43 44 45 46 47 48 49 50 51 52 53 54 55,
         56

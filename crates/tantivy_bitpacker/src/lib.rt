@@ -14,6 +14,3 @@ pub use bits::{compute_num_bits, minmax};
 pub use bitunpacker::BitUnpacker;
 pub use blocked_bitpacker::BlockedBitpacker;
 pub use filter_vec::{filter_vec_in_place, filter_vec_lanes, filter_vec_scalar};
-
-#[cfg(test)]
-mod tests;

@@ -3,8 +3,6 @@
 
 mod bounds;
 mod json_path_writer;
-#[cfg(test)]
-mod tests;
 mod versatile_buffer;
 
 pub use bounds::{

@@ -24,6 +24,3 @@ pub use sstable_blocks;
 pub use sstable_blocks::BlockAddr;
 pub use table::{RangeSSTable, SSTable};
 pub use writer::Writer;
-
-#[cfg(test)]
-mod tests;

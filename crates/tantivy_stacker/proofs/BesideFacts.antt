@@ -88,17 +88,3 @@ map_beside size = λ old new l t u beside w.
       },
       list.bytes_are,
     )
-
--- ---- one at a time, for the tests
-
-pub held_if_empty : (a : Arena) (l : ExpUnrolledLinkedList) → IsEmptyList l → IsHeld a l
-held_if_empty a l none = (empty_is_held a l none).held
-
-pub empty_beside_empty : (size : ℕ) (a : Arena) (l : ExpUnrolledLinkedList) (t : Table) → IsEmptyList l → IsEmptyMap t → AreBeside size a l t
-empty_beside_empty size = empty_beside size
-
-pub beside_after_list : (size : ℕ) (old new : Arena) (l m : ExpUnrolledLinkedList) (t : Table) → 1 ≤ size → AreBeside size old l t → ListWrite old new l m → AreBeside size new m t
-beside_after_list size old new l m t some beside w = (list_beside size (λ (bytes : List ℕ). bytes) some old new l m t beside w).0
-
-pub beside_after_map : (size : ℕ) (old new : Arena) (l : ExpUnrolledLinkedList) (t u : Table) → AreBeside size old l t → MapWrite size old new t u → AreBeside size new l u
-beside_after_map size old new l t u beside w = (map_beside size old new l t u beside w).0

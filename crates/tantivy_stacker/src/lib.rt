@@ -30,6 +30,3 @@ pub use shared_arena_hashmap::{SharedArenaHashMap, compute_table_memory_size};
 
 /// The number of a key of a map.
 pub type UnorderedId = u32;
-
-#[cfg(test)]
-mod tests;

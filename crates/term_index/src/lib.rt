@@ -13,8 +13,6 @@ mod printing;
 mod reading;
 mod searching;
 mod showing;
-#[cfg(test)]
-mod tests;
 mod words;
 
 pub use command::run;

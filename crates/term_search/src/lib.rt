@@ -5,8 +5,6 @@ mod answer;
 mod members;
 mod obstacles;
 mod search;
-#[cfg(test)]
-mod tests;
 
 pub use answer::{Answer, Kind, SearchError};
 pub use index_writing::{WriteError, write_index};

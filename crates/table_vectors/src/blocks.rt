@@ -1,9 +1,9 @@
 // What no clause says: bytes from outside, and that each call succeeds.
-use crate::{
+use owned_bytes::{OwnedBytes, VecSink};
+use sstable_blocks::{
     BlockError, BlockReader, DeltaReader, DeltaWriter, RangeValueReader, RangeValueWriter,
     ValueReader, ValueWriter, vint,
 };
-use owned_bytes::{OwnedBytes, VecSink};
 use std::test::Fail;
 
 fn owned(rt: &HostRuntime, bytes: &[u8]) -> Result<OwnedBytes, Fail> {

@@ -1,5 +1,5 @@
 // Outside bytes, printed text, and each call once.
-use crate::{BitSet, Misfit, ReadOnlyBitSet, TinySet, intersect_bitsets};
+use common_bitset::{BitSet, Misfit, ReadOnlyBitSet, TinySet, intersect_bitsets};
 use owned_bytes::{MemSink, OwnedBytes, SinkError, VecSink};
 use std::test::Fail;
 

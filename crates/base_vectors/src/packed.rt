@@ -1,11 +1,11 @@
-use crate::{
-    BitPacker, BitUnpacker, BlockedBitpacker, compute_num_bits, filter_vec_in_place,
-    filter_vec_lanes, filter_vec_scalar, minmax, plain,
-};
 use owned_bytes::{MemSink, SinkError, VecSink};
 use std::alloc::Global;
 use std::process::Abort;
 use std::test::Fail;
+use tantivy_bitpacker::{
+    BitPacker, BitUnpacker, BlockedBitpacker, compute_num_bits, filter_vec_in_place,
+    filter_vec_lanes, filter_vec_scalar, minmax, plain,
+};
 
 #[test]
 fn widths_of_numbers(rt: HostRuntime) {

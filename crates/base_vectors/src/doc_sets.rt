@@ -1,5 +1,5 @@
 // Sets by their lists.
-use crate::{DocSet, JoinedSets};
+use document_sets::{DocSet, JoinedSets};
 use std::test::Fail;
 
 #[test]

@@ -1,7 +1,7 @@
 // Index files byte by byte, and what is refused.
 ghost use Rattle.std.specs.Prelude.{◌≤◌};
 
-use crate::{WriteError, write_index};
+use index_writing::{WriteError, write_index};
 use owned_bytes::{MemSink, Text, VecSink};
 use std::alloc::{AllocError, Global};
 use std::test::Fail;

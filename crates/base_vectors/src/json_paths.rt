@@ -1,6 +1,6 @@
 // Rows of paths and buffers.
-use crate::{JsonPathWriter, VersatileBuffer};
 use std::test::Fail;
+use tantivy_common::{JsonPathWriter, VersatileBuffer};
 
 #[test]
 fn expanded_dots(rt: HostRuntime) -> Result<(), Fail> {

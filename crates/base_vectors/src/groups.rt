@@ -1,5 +1,5 @@
 // Rows of groups.
-use crate::GroupByIteratorExtended;
+use common_groups::GroupByIteratorExtended;
 use std::alloc::{AllocError, Global};
 use std::test::Fail;
 

@@ -1,10 +1,12 @@
 // Tables as bytes, and what opening them answers.
-use crate::{Dictionary, RangeSSTable, SSTable, SstError, SstWriteError, Unfinished, Writer};
 use owned_bytes::{OwnedBytes, VecSink};
 use sstable_blocks::RangeValueWriter;
 use std::alloc::Global;
 use std::ops::Range;
 use std::test::Fail;
+use tantivy_sstable::{
+    Dictionary, RangeSSTable, SSTable, SstError, SstWriteError, Unfinished, Writer,
+};
 
 // The keys `f`, 0, `a` and `f`, 0, `b` with the ranges 0..2 and 2..4.
 const TABLE: [u8; 47] = [

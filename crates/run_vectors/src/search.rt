@@ -1,8 +1,8 @@
 // Searches of index files that are given as bytes.
-use crate::{Kind, SearchError, search_index};
 use owned_bytes::{BytesFile, Ids, MemFile, OwnedBytes};
 use std::alloc::Global;
 use std::test::Fail;
+use term_search::{Kind, SearchError, search_index};
 
 // Three documents, with the terms a, then a and b, then b in the field f.
 const THREE: [u8; 60] = [

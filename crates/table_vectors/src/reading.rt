@@ -1,5 +1,5 @@
 // Index files as bytes, and what opening them and looking into them answers.
-use crate::{IndexError, OpenIndex};
+use index_reading::{IndexError, OpenIndex};
 use owned_bytes::{BytesFile, Ids, MemFile, OwnedBytes};
 use std::alloc::Global;
 use std::test::Fail;

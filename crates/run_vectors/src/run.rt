@@ -1,8 +1,8 @@
 // Whole commands over documents, files and outputs in memory.
-use crate::{Outcome, Word, run};
 use owned_bytes::{BytesFile, MemFile, MemSink, MemSource, OwnedBytes, SliceSource, VecSink};
 use std::alloc::{AllocError, Global};
 use std::test::Fail;
+use term_index::{Outcome, Word, run};
 
 const THREE: &[u8] = b"[{\"f\":\"a\"},{\"f\":[\"a\",\"b\"]},{\"f\":\"b\"}]";
 

@@ -1,0 +1,7 @@
+//! Worked rows of searches and of whole runs, as tests.
+#![tactic(auto)]
+
+#[cfg(test)]
+mod run;
+#[cfg(test)]
+mod search;
