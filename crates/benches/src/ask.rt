@@ -1,5 +1,5 @@
 // A question over documents in memory, from the text of the documents to the text of the answer.
-use crate::documents;
+use crate::generated;
 use owned_bytes::{BytesFile, OwnedBytes, SliceSource, VecSink};
 use std::time::{Clock, Instant};
 use term_index::{Word, run};
@@ -7,7 +7,7 @@ use term_index::{Word, run};
 /// Prints how long a question over so many documents takes.
 pub fn time<R: Clock + Print + AllocGlobal>(rt: &R, count: u32) -> anyhow::Result<()> {
     let alloc = rt.alloc();
-    let text = documents::text_of(alloc, count)?;
+    let text = generated::text_of(alloc, count)?;
     let mut words = Vec::new(alloc);
     for word in ["ask", "title", "kind:\"k1\" AND tag:\"t7\""] {
         words.push(Word::new(alloc, word)?)?;

@@ -4,8 +4,7 @@
 #![tactic(auto)]
 
 mod ask;
-mod documents;
-mod gather;
+mod generated;
 mod index;
 mod packed;
 mod parse;
@@ -24,7 +23,6 @@ fn main(rt: HostRuntime) -> anyhow::Result<()> {
         "index" => index::time(&rt, count),
         "parse" => parse::time(&rt, count),
         "sets" => sets::time(&rt, count),
-        "gather" => gather::time(&rt, count),
         "packed" => packed::time(&rt, count),
         _ => Ok(()),
     }

@@ -1,2 +1,3 @@
 pub mod WordLoops
 pub mod Written
+pub mod Listed

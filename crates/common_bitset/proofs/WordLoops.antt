@@ -18,12 +18,6 @@ total_same : (k : ℕ) (word word' : ℕ → Numbers) → ((j : ℕ) → j < k �
 total_same zero word word' agree = refl
 total_same (suc k) word word' agree = λ i. total_same k word word' (λ j h. agree j (omega arith)) i + len (agree k (omega arith) i)
 
-pub Applied-none : (op : Numbers → Numbers → Numbers) (old : List Numbers) (right : ℕ → Numbers) → Applied op old right old 0 0
-Applied-none op old right = record { done = λ j h. absurd (none h); to_do = λ j h. refl; counted = refl; few = omega arith }
-  where
-    none : {j : ℕ} → j < 0 → ⊥
-    none h = omega arith
-
 pub Applied-more : {op : Numbers → Numbers → Numbers} {old : List Numbers} {right : ℕ → Numbers} {left : List Numbers} {k count : ℕ} (x y w : Numbers) (n : ℕ)
     → Applied op old right left k count → k < length left → x ≡ get_or left k x → y ≡ right k
     → w ≡ op x y → n ≡ len w → n ≤ 64 → Applied op old right (set left k w) (k + 1) (count + n)
@@ -64,22 +58,3 @@ lent_whole items new n same whole =
 pub record Mapped (op : Numbers → Numbers) (old words : List Numbers) (k : ℕ) : Type 0 where
   pub done : (j : ℕ) → j < k → word_at words j ≡ op (word_at old j)
   pub to_do : (j : ℕ) → k ≤ j → word_at words j ≡ word_at old j
-
-pub Mapped-none : (op : Numbers → Numbers) (old : List Numbers) → Mapped op old old 0
-Mapped-none op old = record { done = λ j h. absurd (none h); to_do = λ j h. refl }
-  where
-    none : {j : ℕ} → j < 0 → ⊥
-    none h = omega arith
-
-pub Mapped-more : {op : Numbers → Numbers} {old words : List Numbers} {k : ℕ} (x w : Numbers) → Mapped op old words k → k < length words → x ≡ get_or words k x → w ≡ op x → Mapped op old (set words k w) (k + 1)
-Mapped-more {op} {old} {words} {k} x w so_far within read is = record {
-  done = λ j h. done j (omega arith);
-  to_do = λ j h. get_or-set_other words k j w empty (λ e. omega arith) ∙ so_far.to_do j (omega arith);
-}
-  where
-    done : (j : ℕ) → j ≤ k → word_at (set words k w) j ≡ op (word_at old j)
-    done j h = elim (cases_eq j k) as (λ _. word_at (set words k w) j ≡ op (word_at old j)) [
-      | inl e ↦ ap (word_at (set words k w)) e ∙ get_or-set_same words k w empty within ∙ is
-          ∙ ap op (read ∙ get_or_default words k x empty within ∙ so_far.to_do k (omega arith) ∙ ap (word_at old) (sym e))
-      | inr ne ↦ get_or-set_other words k j w empty ne ∙ so_far.done j (omega arith)
-    ]

@@ -1,4 +1,4 @@
--- Laws of the sets: those that the types' own impls cite, and those that callers need.
+-- Laws of the sets: those that the types' own impls cite, and those that callers need. A reader of contracts may skip this file.
 pub mod Ranges
 pub mod Sets
 pub mod WordSets

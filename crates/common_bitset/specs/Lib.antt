@@ -5,3 +5,4 @@ pub mod Subset
 pub mod Counts
 pub mod Laid
 pub mod Iterated
+pub mod Shown

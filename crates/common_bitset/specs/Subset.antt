@@ -3,7 +3,7 @@ use Rattle.std.specs.Prelude.{◌≡◌, ℕ, ◌+◌, ◌-◌, ◌*◌, ◌/◌
 use Rattle.std.specs.Int.{w32, w64, div_ceil, to_le_bytes, from_le_bytes}
 use Rattle.std.specs.List.{range_with_len}
 use Rattle.std.specs.Coded.{Coded, code_by, coded×, coded_ℕ}
-use Rattle.std.specs.FinSet.{code, empty, contains}
+use Rattle.std.specs.FinSet.{code, empty, contains, intersection}
 use Rattle.common_bitset.specs.Numbers.{Numbers, below_where, IsBelow}
 use Rattle.common_bitset.specs.Words.{elements_of, word_of}
 
@@ -59,6 +59,10 @@ pub record IsFirstNonEmpty (word : ℕ → Numbers) (from b : ℕ) : Type 0 wher
 unfoldable pub words_bytes : ℕ → (ℕ → Numbers) → List ℕ
 words_bytes n word = flat_map (λ k. to_le_bytes w64 (word_of (word k))) (range_with_len 0 n)
 
+-- the words of a list in bytes
+abbrev pub bytes_of_words : List Numbers → List ℕ
+bytes_of_words words = words_bytes (length words) (word_at words)
+
 -- the bound in four bytes, least byte first, and as many words as it needs
 abbrev pub bytes_of : Subset → List ℕ
 bytes_of s = to_le_bytes w32 s.max_value ++ words_bytes (div_ceil s.max_value 64) (word_in s.elements)
@@ -66,6 +70,10 @@ bytes_of s = to_le_bytes w32 s.max_value ++ words_bytes (div_ceil s.max_value 64
 -- word k of bytes
 unfoldable pub stored_word : List ℕ → ℕ → Numbers
 stored_word bytes k = elements_of (from_le_bytes w64 (take 8 (drop (8 * k) bytes)))
+
+-- what word k of both has
+abbrev pub met_word : List ℕ → List ℕ → ℕ → Numbers
+met_word left right k = intersection (stored_word left k) (stored_word right k)
 
 -- the bound that bytes begin with
 abbrev pub stored_bound : List ℕ → ℕ

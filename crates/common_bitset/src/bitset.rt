@@ -1,12 +1,14 @@
 // A set of numbers below a bound.
 ghost use Rattle.std.specs.Prelude.{◌≡◌, ◌<◌, ◌≤◌, ◌↔◌, ℕ, IfOk, IfSome, IsNone, Err, not};
 ghost use Rattle.std.specs.FinSet as set;
-ghost use Rattle.common_bitset.specs.Numbers.{below};
+ghost use Rattle.std.specs.Fmt.{WritesOnOk};
+ghost use Rattle.common_bitset.specs.Numbers.{below, rising};
+ghost use Rattle.common_bitset.specs.Shown.{counts_text};
 ghost use Rattle.std.specs.Int.{div_ceil};
 ghost use Rattle.owned_bytes.specs.Outside.{WritesAll, HasCause};
 ghost use Rattle.common_bitset.specs.Subset.{Subset, IsProper, IsFirstNonEmpty, word_in, bytes_of};
 
-use crate::{ReadOnlyBitSet, TinySet, words};
+use crate::{BitSetElements, ReadOnlyBitSet, TinySet, words};
 use owned_bytes::{Sink, SinkError};
 use std::alloc::{AllocError, Global};
 use std::fmt;
@@ -35,6 +37,7 @@ impl Model for BitSet {
 }
 
 impl BitSet {
+    /// The bound: each element is below it.
     pub fn max_value(&self) -> u32
         ensures value { result ≡ self.now.max_value }
         ensures proper { IsProper self.now }
@@ -42,6 +45,7 @@ impl BitSet {
         self.max_value
     }
 
+    /// How many elements there are.
     pub fn len(&self) -> usize
         ensures count { result ≡ set.len self.now.elements }
         ensures most { result ≤ self.now.max_value }
@@ -49,6 +53,7 @@ impl BitSet {
         self.len
     }
 
+    /// The word of a bucket: those of the 64 numbers from `64 * bucket` on that are elements, counted from 0.
     pub fn tinyset(&self, bucket: u32) -> TinySet
         requires { bucket < div_ceil self.now.max_value 64 }
         ensures { result ≡ word_in self.now.elements bucket }
@@ -56,6 +61,7 @@ impl BitSet {
         self.tinysets[bucket as usize]
     }
 
+    /// Whether the number is an element.
     pub fn contains(&self, el: u32) -> bool
         requires { el < self.now.max_value }
         ensures { result ≡ set.contains self.now.elements el }
@@ -63,6 +69,7 @@ impl BitSet {
         self.tinysets[el as usize / 64].contains(el % 64)
     }
 
+    /// Inserts the number. Answers whether the set changed.
     pub fn insert(&mut self, el: u32) -> bool
         requires { el < self.old.max_value }
         ensures elements { self.new.elements ≡ set.insert self.old.elements el }
@@ -75,6 +82,7 @@ impl BitSet {
         changed
     }
 
+    /// Takes the number out, where it is an element.
     pub fn remove(&mut self, el: u32)
         requires { el < self.old.max_value }
         ensures elements { self.new.elements ≡ set.remove self.old.elements el }
@@ -102,6 +110,7 @@ impl BitSet {
     {
         self.len = words::intersect(self.tinysets.as_mut_slice(), other.tinysets.as_slice());
     }
+
     /// Keeps the elements that the other set has too.
     pub fn intersect_update(&mut self, other: &ReadOnlyBitSet)
         requires { other.now.max_value ≡ self.old.max_value }
@@ -139,6 +148,14 @@ impl BitSet {
         words::first_non_empty(self.tinysets.as_slice(), bucket)
     }
 
+    /// The elements, rising.
+    pub fn iter(&self) -> BitSetElements<'_>
+        ensures { result ≡ rising self.now.max_value self.now.elements }
+    {
+        BitSetElements::new(self.tinysets.as_slice())
+    }
+
+    /// The set without elements, over the numbers below `max_value`.
     pub fn with_max_value(alloc: Global, max_value: u32) -> Result<BitSet, AllocError>
         ensures { IfOk result (λ s. s ≡ record { elements = set.empty; max_value = max_value }) }
     {
@@ -178,6 +195,7 @@ impl BitSet {
         writer.flush()
     }
 
+    /// The same set, in memory of its own.
     pub fn clone(&self, alloc: Global) -> Result<BitSet, AllocError>
         ensures { IfOk result (λ s. s ≡ self.now) }
     {
@@ -190,10 +208,28 @@ impl BitSet {
 }
 
 impl fmt::Debug for BitSet {
+    ghost use Rattle.std.specs.Prelude.{Some};
+    ghost use Rattle.common_bitset.specs.Shown.{bit_set_text};
+
+    ghost debug_output = { λ s. Some (bit_set_text s) };
+
     fn fmt<W: fmt::Write>(&self, f: &mut fmt::Formatter<W>) -> fmt::Result {
-        f.debug_struct("BitSet")
-            .field("len", &self.len)
-            .field("max_value", &self.max_value)
-            .finish()
+        let len = self.len();
+        let max_value = self.max_value();
+        if f.alternate() {
+            return f
+                .debug_struct("BitSet")
+                .field("len", &len)
+                .field("max_value", &max_value)
+                .finish();
+        }
+        show_counts(len, max_value, f)
     }
+}
+
+// Writes the number of the elements and the bound.
+fn show_counts<W: fmt::Write>(len: usize, max_value: u32, f: &mut fmt::Formatter<W>) -> fmt::Result
+    ensures { WritesOnOk W.write_str_gives f.old result (counts_text len max_value) f.new }
+{
+    write!(f, "BitSet {{ len: {len}, max_value: {max_value} }}")
 }

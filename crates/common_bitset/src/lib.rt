@@ -8,6 +8,6 @@ mod tinyset;
 mod words;
 
 pub use bitset::BitSet;
-pub use iterated::BitSetIter;
+pub use iterated::{BitSetElements, BitSetIter};
 pub use read_only::{Misfit, ReadOnlyBitSet, intersect_bitsets};
 pub use tinyset::{TinySet, TinySetIterator};

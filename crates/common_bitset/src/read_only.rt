@@ -2,7 +2,7 @@
 ghost use Rattle.std.specs.Prelude.{◌≡◌, ◌*◌, ◌/◌, ◌<◌, ◌≤◌, ◌↔◌, ℕ, length, IsTrue, IsOk, IfOk, IsOkAnd};
 ghost use Rattle.std.specs.Int.{div_ceil};
 ghost use Rattle.std.specs.FinSet as set;
-ghost use Rattle.common_bitset.specs.Subset.{Subset, IsProper, FitsBitSet, stored_set, stored_word, bytes_of, word_at, word_in};
+ghost use Rattle.common_bitset.specs.Subset.{Subset, IsProper, FitsBitSet, stored_set, bytes_of, met_word, word_at, word_in};
 ghost use Rattle.common_bitset.specs.Numbers.{rising};
 ghost use Rattle.common_bitset.specs.Counts.{total};
 ghost use Rattle.common_bitset.specs.Laws.Stored.{Stores};
@@ -69,6 +69,7 @@ impl ReadOnlyBitSet {
         })
     }
 
+    /// The bound: each element is below it.
     pub fn max_value(&self) -> u32
         ensures value { result ≡ self.now.max_value }
         ensures proper { IsProper self.now }
@@ -83,6 +84,7 @@ impl ReadOnlyBitSet {
         ByteCount::from(self.words.len())
     }
 
+    /// How many elements there are.
     pub fn len(&self) -> usize
         ensures count { result ≡ set.len self.now.elements }
         ensures most { result ≤ self.now.max_value }
@@ -90,6 +92,7 @@ impl ReadOnlyBitSet {
         words::count_stored(self.words.as_slice())
     }
 
+    /// Whether the number is an element.
     pub fn contains(&self, el: u32) -> bool
         requires { el < self.now.max_value }
         ensures { result ≡ set.contains self.now.elements el }
@@ -104,6 +107,7 @@ impl ReadOnlyBitSet {
         BitSetIter::new(self.words.as_slice())
     }
 
+    /// The same set, over the same bytes.
     pub fn clone(&self, alloc: Global) -> Result<ReadOnlyBitSet, AllocError>
         ensures { IfOk result (λ s. s ≡ self.now) }
     {
@@ -170,7 +174,7 @@ fn written_words(alloc: Global, bitset: &BitSet) -> Result<Vec<u8>, AllocError>
 // The words in bytes that have what both words have.
 fn met_words(alloc: Global, left: &[u8], right: &[u8]) -> Result<Vec<u8>, AllocError>
     requires same_len { length right.now ≡ length left.now }
-    ensures { IfOk result (λ v. Stores v.items (length left.now / 8) (λ k. set.intersection (stored_word left.now k) (stored_word right.now k))) }
+    ensures { IfOk result (λ v. Stores v.items (length left.now / 8) (met_word left.now right.now)) }
 {
     let mut bytes = Vec::with_capacity(alloc, left.len())?;
     for k in 0..left.len() / 8 {

@@ -1,5 +1,5 @@
 // Sets of numbers below 64.
-ghost use Rattle.std.specs.Prelude.{◌≡◌, ◌<◌, ◌↔◌, IsTrue, IsNone, IsSome, IfSome, Bool, not, ◌≤◌, Err};
+ghost use Rattle.std.specs.Prelude.{◌≡◌, ◌<◌, ◌↔◌, IsTrue, IsNone, IsSome, IfSome, Bool, not, ◌≤◌, Err, length, take};
 ghost use Rattle.std.specs.Int.{w64, to_le_bytes, from_le_bytes};
 ghost use Rattle.std.specs.FinSet as set;
 ghost use Rattle.std.specs.Iterator.{YieldsFirst, item_count};
@@ -42,18 +42,21 @@ impl TinySet {
     /// The set without elements.
     pub const EMPTY: TinySet = TinySet(0);
 
+    /// The set without elements.
     pub fn empty() -> TinySet
         ensures { result ≡ set.empty }
     {
         TinySet(0)
     }
 
+    /// All numbers below 64.
     pub fn full() -> TinySet
         ensures { result ≡ below 64 }
     {
         TinySet::empty().complement()
     }
 
+    /// Takes all elements out.
     pub fn clear(&mut self)
         ensures { self.new ≡ set.empty }
     {
@@ -67,6 +70,7 @@ impl TinySet {
         TinySet(!self.0)
     }
 
+    /// Whether the number is an element.
     pub fn contains(self, el: u32) -> bool
         requires { el < 64 }
         ensures { result ≡ set.contains self el }
@@ -74,6 +78,7 @@ impl TinySet {
         (self.0 >> el) & 1 == 1
     }
 
+    /// How many elements there are.
     pub fn len(self) -> u32
         ensures count { result ≡ set.len self }
         ensures most { result ≤ 64 }
@@ -81,6 +86,7 @@ impl TinySet {
         self.0.count_ones()
     }
 
+    /// The elements that both sets have.
     #[must_use]
     pub fn intersect(self, other: TinySet) -> TinySet
         ensures { result ≡ set.intersection self other }
@@ -88,6 +94,7 @@ impl TinySet {
         TinySet(self.0 & other.0)
     }
 
+    /// The set of one number.
     pub fn singleton(el: u32) -> TinySet
         requires { el < 64 }
         ensures { result ≡ set.insert set.empty el }
@@ -95,6 +102,7 @@ impl TinySet {
         TinySet(1 << el)
     }
 
+    /// The set with this element too.
     #[must_use]
     pub fn insert(self, el: u32) -> TinySet
         requires { el < 64 }
@@ -103,6 +111,7 @@ impl TinySet {
         self.union(TinySet::singleton(el))
     }
 
+    /// The set without this element.
     #[must_use]
     pub fn remove(self, el: u32) -> TinySet
         requires { el < 64 }
@@ -111,7 +120,7 @@ impl TinySet {
         TinySet(self.0 & !(1 << el))
     }
 
-    /// Whether the set changed.
+    /// Inserts the number. Answers whether the set changed.
     pub fn insert_mut(&mut self, el: u32) -> bool
         requires { el < 64 }
         ensures after { self.new ≡ set.insert self.old el }
@@ -122,7 +131,7 @@ impl TinySet {
         old != *self
     }
 
-    /// Whether the set changed.
+    /// Removes the number. Answers whether the set changed.
     pub fn remove_mut(&mut self, el: u32) -> bool
         requires { el < 64 }
         ensures after { self.new ≡ set.remove self.old el }
@@ -133,6 +142,7 @@ impl TinySet {
         old != *self
     }
 
+    /// The elements of either set.
     #[must_use]
     pub fn union(self, other: TinySet) -> TinySet
         ensures { result ≡ set.union self other }
@@ -140,6 +150,7 @@ impl TinySet {
         TinySet(self.0 | other.0)
     }
 
+    /// Whether there is no element.
     pub fn is_empty(self) -> bool
         ensures { IsTrue result ↔ (self ≡ set.empty) }
     {
@@ -252,7 +263,28 @@ impl Iterator for TinySetIterator {
 }
 
 impl fmt::Debug for TinySet {
+    ghost use Rattle.common_bitset.specs.Shown.{tiny_set_text};
+
+    ghost debug_output = { tiny_set_text };
+
     fn fmt<W: fmt::Write>(&self, f: &mut fmt::Formatter<W>) -> fmt::Result {
-        f.debug_list().entries(*self).finish()
+        let mut elements = [0; 64];
+        let count = list_elements(*self, &mut elements);
+        fmt::Debug::fmt(&&elements[..count], f)
     }
+}
+
+// Puts the elements in front of the list, rising, and says how many they are.
+fn list_elements(set: TinySet, elements: &mut [u32]) -> usize
+    requires { length elements.old ≡ 64 }
+    ensures within { result ≤ 64 }
+    ensures elements { take result elements.new ≡ rising 64 set }
+    ensures long { length elements.new ≡ 64 }
+{
+    let mut count = 0;
+    for element in set {
+        elements[count] = element;
+        count += 1;
+    }
+    count
 }

@@ -3,7 +3,7 @@ ghost use Rattle.std.specs.Prelude.{◌≡◌, ◌<◌, ◌≤◌, ◌^◌, ◌+
 ghost use Rattle.std.specs.Int.{div_ceil};
 ghost use Rattle.std.specs.FinSet as set;
 ghost use Rattle.common_bitset.specs.Numbers.{below, IsBelow};
-ghost use Rattle.common_bitset.specs.Subset.{word_at, room, stored_word, AreWords, IsFirstNonEmpty, words_bytes};
+ghost use Rattle.common_bitset.specs.Subset.{word_at, room, stored_word, AreWords, IsFirstNonEmpty, bytes_of_words};
 ghost use Rattle.owned_bytes.specs.Outside.{WritesAll, HasCause};
 ghost use Rattle.common_bitset.specs.Counts.{total};
 
@@ -120,6 +120,7 @@ pub(crate) fn trim(words: &mut [TinySet], max_value: u32)
     }
 }
 
+// Takes all elements out.
 pub(crate) fn clear(words: &mut [TinySet])
     ensures { (k : ℕ) → word_at words.new k ≡ set.empty }
 {
@@ -146,7 +147,7 @@ pub(crate) fn first_non_empty(words: &[TinySet], from: u32) -> Option<u32>
 
 // Appends the words, each least byte first.
 pub(crate) fn write<W: Sink>(words: &[TinySet], writer: &mut W) -> Result<(), SinkError>
-    ensures bytes { WritesAll (W.written writer.old) (W.written writer.new) result (words_bytes (length words.now) (word_at words.now)) }
+    ensures bytes { WritesAll (W.written writer.old) (W.written writer.new) result (bytes_of_words words.now) }
     ensures cause { HasCause (W.faults writer.old) (W.faults writer.new) (result ≡ Err SinkError.Failed) }
 {
     for k in 0..words.len() {

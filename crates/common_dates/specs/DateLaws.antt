@@ -1,4 +1,4 @@
--- The laws of dates as bytes.
+-- The laws of dates as bytes. A reader of contracts may skip this file.
 use Rattle.std.proofs.Common.{◌≡◌, ℕ, zero, suc, ◌≤◌, lit<, ◌*◌, ◌/◌, ◌^◌, ℤ, List, ◌++◌, Bool, true, false, refl, ap, sym, ◌∙◌, arith, subst}
 use Rattle.std.specs.Prelude.{pos, negsuc, neg_ℤ, ◌*ℤ◌, FitsSigned, int_div, nat_lt}
 use Rattle.std.specs.Int.{w64, to_le_bytes, cast_unsigned}

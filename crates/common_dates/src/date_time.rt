@@ -42,6 +42,7 @@ impl DateTime {
     /// The last instant, in the year 2262.
     pub const MAX: DateTime = DateTime { nanos: i64::MAX };
 
+    /// The date of so many seconds since 1970.
     pub fn from_timestamp_secs(seconds: i64) -> DateTime
         requires { FitsSigned w64 (seconds *ℤ pos second) }
         ensures { result ≡ seconds *ℤ pos second }
@@ -51,6 +52,7 @@ impl DateTime {
         }
     }
 
+    /// The date of so many milliseconds since 1970.
     pub fn from_timestamp_millis(milliseconds: i64) -> DateTime
         requires { FitsSigned w64 (milliseconds *ℤ pos millisecond) }
         ensures { result ≡ milliseconds *ℤ pos millisecond }
@@ -60,6 +62,7 @@ impl DateTime {
         }
     }
 
+    /// The date of so many microseconds since 1970.
     pub fn from_timestamp_micros(microseconds: i64) -> DateTime
         requires { FitsSigned w64 (microseconds *ℤ pos microsecond) }
         ensures { result ≡ microseconds *ℤ pos microsecond }
@@ -69,6 +72,7 @@ impl DateTime {
         }
     }
 
+    /// The date of so many nanoseconds since 1970.
     pub fn from_timestamp_nanos(nanoseconds: i64) -> DateTime
         ensures { result ≡ nanoseconds }
     {
@@ -96,6 +100,7 @@ impl DateTime {
         self.nanos / 1_000
     }
 
+    /// Nanoseconds since 1970.
     pub fn into_timestamp_nanos(self) -> i64
         ensures { result ≡ self }
     {
@@ -143,6 +148,7 @@ impl DateTime {
         }
     }
 
+    /// The instant.
     pub fn into_utc(self) -> Timestamp
         ensures { result.nanosecond ≡ self }
     {

@@ -1,11 +1,11 @@
 -- Runs of equal keys, and groups that are each read to their end.
 use Rattle.std.specs.Prelude.{◌≡◌, Bool, true, false, List, [], ◌∷◌, ◌++◌, Option, None, Some, ⊤}
 use Rattle.std.specs.List.{All}
-use Rattle.std.specs.Iterator.{Count}
+use Rattle.std.specs.Iterator.{Count, Drains}
 use Rattle.std.specs.Borrow.{Bor}
 use denote.Param.Members.{Mut}
 use Rattle.common_groups.specs.declared.groups.GroupByIterator.{GroupByIterator}
-use Rattle.common_groups.specs.Groups.{IsOver, Gives, Fills, IsLast}
+use Rattle.common_groups.specs.Groups.{IsOver, KeysAre, Gives, Fills, IsLast, held, has_ended, source}
 use Rattle.common_groups.specs.Steps.{CallsGroup}
 
 -- the items of groups, one after the other
@@ -34,6 +34,10 @@ module _ {I F K A : Type 0} (steps : I → Option A → I → Type 0) where
   abbrev pub GivesAll : GroupByIterator I F K A → List A → Type 0
   GivesAll s xs = (t : GroupByIterator I F K A) × Gives steps s xs t × IsOver t
 
+  -- where nothing was read before, what is given until the source has no more is what the source gives
+  abbrev pub GivesItsSource : GroupByIterator I F K A → Type 0
+  GivesItsSource s = (xs : List A) → held s ≡ None → has_ended s ≡ false → GivesAll s xs → Drains steps (source s) xs
+
 module _ {I F K A : Type 0} (steps : I → Option A → I → Type 0) (g : Mut F (Bor A × Unit {0}) K) (eq : K → K → Bool) where
   -- the group of this key was read to its end, and gave these items
   abbrev pub ReadsGroup : K → GroupByIterator I F K A → List A → GroupByIterator I F K A → Type 0
@@ -45,3 +49,8 @@ module _ {I F K A : Type 0} (can : I → Type 0) (callable : F → Type 0) (left
   abbrev pub ReadsGroups : GroupByIterator I F K A → List (K × List A) → Type 0
   ReadsGroups s [] = IsLast can callable left steps g s
   ReadsGroups s (group ∷ gs) = (t u : GroupByIterator I F K A) × Fills can callable left steps g s (Some group.0) t × ReadsGroup steps g eq group.0 t group.1 u × ReadsGroups u gs
+
+  -- Where the key depends on the item alone, groups that are each read to their end, until there is none, are the maximal
+  -- runs, and their items are all that were given.
+  abbrev pub GroupsAreRuns : GroupByIterator I F K A → Type 0
+  GroupsAreRuns s = (gs : List (K × List A)) (h : A → K) → KeysAre g h s → ReadsGroups s gs → AreRuns eq h gs × GivesAll steps s (all_items gs)

@@ -1,11 +1,11 @@
 -- The calls on the items of a group.
-use Rattle.std.specs.Prelude.{◌≡◌, Bool, true, Option, None, IfSome, IfNone, option_to_list}
+use Rattle.std.specs.Prelude.{◌≡◌, Bool, true, Option, None, Some, IfSome, IfNone, option_to_list}
 use Rattle.std.specs.Iterator.{Count}
 use Rattle.std.specs.Borrow.{Bor, MutBor, GName}
 use denote.Param.Members.{Mut}
 use Rattle.common_groups.specs.declared.groups.GroupByIterator.{GroupByIterator}
 use Rattle.common_groups.specs.declared.groups.GroupIterator.{GroupIterator}
-use Rattle.common_groups.specs.Groups.{GroupIsOver, KeysAre, Gives, CanRead, items_left}
+use Rattle.common_groups.specs.Groups.{GroupIsOver, KeysAre, Gives, Fills, CanRead, items_left}
 
 module _ {I F K A : Type 0} (steps : I → Option A → I → Type 0) (g : Mut F (Bor A × Unit {0}) K) (eq : K → K → Bool) where
   -- A call on the group of this key gives the next item of the source where its key is the group's, and else None, then and for good.
@@ -29,6 +29,11 @@ module _ {I F K A : Type 0} where
 
   abbrev pub group_key : GroupIterator I F K A → K
   group_key s = s.key
+
+  module _ (can : I → Type 0) (callable : F → Type 0) (left : I → Count) (steps : I → Option A → I → Type 0) (g : Mut F (Bor A × Unit {0}) K) where
+    -- a key and the group of it: the next item is read and held, and has this key
+    abbrev pub Begins : GroupByIterator I F K A → K × GroupIterator I F K A → Type 0
+    Begins s p = Fills can callable left steps g s (Some p.0) (groups p.1)
 
   abbrev pub group_can : (I → Type 0) → (F → Type 0) → GroupIterator I F K A → Type 0
   group_can can callable s = CanRead can callable (groups s)

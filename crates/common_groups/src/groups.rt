@@ -1,8 +1,8 @@
 // Groups of the items of an iterator.
-ghost use Rattle.std.specs.Prelude.{◌≡◌, Some, None, IfSome, IfNone, false, []};
+ghost use Rattle.std.specs.Prelude.{◌≡◌, None, IfSome, IfNone, false, []};
 ghost use Rattle.std.specs.Option.{option_map};
-ghost use Rattle.common_groups.specs.Groups.{source, has_ended, key_of, held, held_key, IsReady, KeysAre, Gives, CanRead, KeepsLeft, Fills, IsLast, without_held};
-ghost use Rattle.common_groups.specs.Steps.{groups_name, groups, group_key};
+ghost use Rattle.common_groups.specs.Groups.{source, has_ended, key_of, held, held_key, IsReady, KeysAre, Gives, CanRead, KeepsLeft, IsLast, without_held};
+ghost use Rattle.common_groups.specs.Steps.{Begins, groups_name, group_key};
 
 /// The items of an iterator in groups.
 pub trait GroupByIteratorExtended: Iterator {
@@ -52,7 +52,7 @@ where
         requires { CanRead I.can_next F.IsAlwaysCallable self.old }
         ensures same_reference { IfSome result (λ p. groups_name p ≡ self.entry.ghost_name) }
         ensures key { IfSome result (λ p. group_key p.1 ≡ p.0) }
-        ensures begins { IfSome result (λ p. Fills I.can_next F.IsAlwaysCallable I.remaining I.next_gives F.FnMut self.old (Some p.0) (groups p.1)) }
+        ensures begins { IfSome result (Begins I.can_next F.IsAlwaysCallable I.remaining I.next_gives F.FnMut self.old) }
         ensures none { IfNone result (IsLast I.can_next F.IsAlwaysCallable I.remaining I.next_gives F.FnMut self.old) }
     {
         let key = self.fill()?;

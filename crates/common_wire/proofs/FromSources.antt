@@ -7,7 +7,8 @@ use Rattle.common_wire.specs.Serialized.{limit, IsTaking, IsCause, Takes}
 use Rattle.common_wire.specs.declared.error.WireError.{WireError}
 use Rattle.common_wire.specs.declared.error.WireError.TheVariants.{Memory, Ended, Invalid, Failed}
 use Rattle.common_wire.specs.TakingLaws.{continued_value, value_is, IsTaking-give, IsTaking-then, IsTaking-if}
-use Rattle.common_wire.specs.GroupLaws.{groups-last, groups-more, groups-none, IsTaking-groups, group_below, limit-rising}
+use Rattle.common_wire.specs.GroupLaws.{groups-last, groups-more, groups-none, IsTaking-groups}
+use Rattle.common_wire.proofs.SevenBits.{group_below, limit-rising}
 
 -- a source went on from the whole taking to what is left of it
 pub record GoneOn {A : Type 0} (whole rest : Taking A) (bytes left : List ℕ) : Type 0 where

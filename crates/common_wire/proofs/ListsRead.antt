@@ -4,13 +4,12 @@ use Rattle.std.specs.Prelude.{nat_le, if◌then◌else◌, All}
 use Rattle.std.specs.List.{flat_map}
 use Rattle.std.specs.Io.KnownBytes.{Consumes}
 use Rattle.std.proofs.lemmas.Bool.{leb-true, leb-false}
-use Rattle.std.proofs.lemmas.List.{length-map, take_at}
+use Rattle.std.proofs.lemmas.List.{length-map}
 use Rattle.std.proofs.lemmas.List.Folds.{flat_map-map}
-use borrow.Rule.Slice.PartMut.{put_mid, post_of}
 use Rattle.common_wire.specs.Taking.{Taken, Value, Cut, Wrong, Taking, continued, ◌>>=◌, give, only_if, bytes_of, counted}
 use Rattle.common_wire.specs.Wire.{list_bytes, vint_bytes}
 use Rattle.common_wire.specs.Serialized.{IsTaking, IsCause, Takes}
-use Rattle.common_wire.specs.TakingLaws.{IsTaking-give, IsTaking-then, IsTaking-only_if, IsTaking-bytes_of, IsTaking-counted, bytes_of-enough, bytes_of-again, value_is}
+use Rattle.common_wire.specs.TakingLaws.{IsTaking-give, IsTaking-then, IsTaking-only_if, IsTaking-bytes_of, IsTaking-counted, bytes_of-enough, value_is}
 use Rattle.common_wire.specs.declared.error.WireError.{WireError}
 use Rattle.common_wire.specs.declared.error.WireError.TheVariants.{Memory, Ended, Invalid, Failed}
 use Rattle.common_wire.proofs.FromSources.{GoesOn, GoesOn-begin, GoesOn-then, GoesOn-same, GoesOn-trans, Takes-whole, Takes-failed, Takes-give, Takes-refuse}
@@ -63,12 +62,6 @@ Consumes-taken n (Some bytes) (Some left) piece took =
             nothing [] = refl
             nothing (x ∷ xs) = ap (λ l. x ∷ l) (nothing xs)
         by false found = absurd cc
-
--- all bytes were read
-pub Takes-all_bytes : {T : Type 0} (shown : T → List ℕ) (n : ℕ) (old now : Option (List ℕ)) (x : T) → Consumes old now (shown x) → length (shown x) ≡ n → Takes shown (bytes_of n) old now (Ok x)
-Takes-all_bytes shown n None now x gone long = tt
-Takes-all_bytes shown n (Some bytes) None x gone long = absurd gone
-Takes-all_bytes shown n (Some bytes) (Some left) x gone long = ap (λ m. bytes_of m bytes) (sym long) ∙ ap (bytes_of (length (shown x))) gone ∙ bytes_of-again (shown x) left
 
 bytes_of-cut : (n : ℕ) (bytes : List ℕ) → length bytes < n → bytes_of n bytes ≡ Cut
 bytes_of-cut n bytes short = by (nat_le n (length bytes)) refl
@@ -132,10 +125,6 @@ Takes-no_room shown n done (Some bytes) (Some left) gone fits = record {
   gone = (done, gone);
   within = λ x rest found. let whole = rest_of_bytes n bytes rest x found in omega (arith, whole.1, ap length gone, length-append done left);
 }
-
--- what was put at the front of a buffer
-pub take-put_front : (k n : ℕ) (xs ys : List ℕ) → length ys ≡ n → take n (put_mid 0 k xs ys) ≡ ys
-take-put_front k n xs ys long = take_at ys (post_of 0 k xs) n long
 
 -- so many values are left, after these
 pub values_left : {A : Type 0} → Taking A → List A → ℕ → Taking (List A)

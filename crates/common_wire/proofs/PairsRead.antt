@@ -3,7 +3,7 @@ use Rattle.std.proofs.Common.{List, ℕ, Option, Ok, Err, refl}
 use Rattle.common_wire.specs.Taking.{Taking, ◌>>=◌, give}
 use Rattle.common_wire.specs.Serialized.{IsTaking, Takes}
 use Rattle.common_wire.specs.TakingLaws.{IsTaking-give, IsTaking-then}
-use Rattle.common_wire.specs.PairLaws.{pair}
+use Rattle.common_wire.specs.Wire.{pair}
 use Rattle.common_wire.specs.declared.error.WireError.{WireError}
 use Rattle.common_wire.proofs.FromSources.{GoesOn, GoesOn-then, GoesOn-trans, Takes-whole, Takes-failed, Takes-give}
 

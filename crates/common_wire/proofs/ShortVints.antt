@@ -4,20 +4,14 @@ use Rattle.std.specs.Prelude.{IfSome, IfNone}
 use Rattle.std.proofs.lemmas.List.{drop_all}
 use Rattle.common_wire.specs.Taking.{Taken, Value, Cut, Wrong, HasValue, byte, refuse}
 use Rattle.common_wire.specs.Wire.{vint32}
-use Rattle.common_wire.specs.Serialized.{limit, Takes}
+use Rattle.common_wire.specs.Serialized.{Takes}
 use Rattle.common_wire.specs.declared.error.WireError.TheVariants.{Ended, Invalid}
-use Rattle.common_wire.specs.GroupLaws.{limit-rising}
-use Rattle.common_wire.proofs.FromSources.{GroupsRead, GroupsRead-more, GroupsRead-cut, GroupsRead-last, GroupsRead-large, GoesOn-none, GoesOn-trans, Takes-whole, Takes-refuse, after, group_fits}
-use Rattle.common_wire.proofs.VintLaws.{fits_u32, IsTaking-fits_u32, fits_u32-is, fits_u32-not}
+use Rattle.common_wire.proofs.FromSources.{GroupsRead, GroupsRead-more, GroupsRead-cut, GroupsRead-last, GroupsRead-large, GoesOn-none, GoesOn-trans, Takes-whole, Takes-refuse, after}
+use Rattle.common_wire.proofs.VintLaws.{fits_below, IsTaking-fits_below, fits_below-is, fits_below-not}
 
 -- i groups were read
 abbrev pub ShortRead : ℕ → ℕ → ℕ → List ℕ → Type 0
-ShortRead i value scale bytes = GroupsRead vint32 fits_u32 (5 - i) i value scale (Some bytes) (Some (drop i bytes))
-
-pub has_value : (taken : Taken ℕ) (x : ℕ) (rest : List ℕ) → taken ≡ Value x rest → HasValue taken
-has_value (Value y left) x rest e = tt
-has_value Cut x rest e = absurd cc
-has_value Wrong x rest e = absurd cc
+ShortRead i value scale bytes = GroupsRead vint32 (fits_below (2 ^ 32)) (5 - i) i value scale (Some bytes) (Some (drop i bytes))
 
 pub cut_has_none : (taken : Taken ℕ) → taken ≡ Cut → HasValue taken → ⊥
 cut_has_none (Value y left) e has = absurd cc
@@ -38,7 +32,7 @@ pub ShortRead-more : (i value scale : ℕ) (bytes : List ℕ) → ShortRead i va
     → ShortRead (i + 1) (value + scale * get_or bytes i 0) (scale * 128) bytes
 ShortRead-more i value scale bytes p early within small =
     let left : 5 - (i + 1) ≡ 4 - i = omega arith in
-    rw left (GroupsRead-more vint32 fits_u32 (5 - i) (4 - i) i value scale (get_or bytes i 0) (Some bytes) (Some (drop i bytes)) (Some (drop (i + 1) bytes)) p (omega arith) small (byte_at i bytes within))
+    rw left (GroupsRead-more vint32 (fits_below (2 ^ 32)) (5 - i) (4 - i) i value scale (get_or bytes i 0) (Some bytes) (Some (drop i bytes)) (Some (drop (i + 1) bytes)) p (omega arith) small (byte_at i bytes within))
 
 -- the bytes end
 pub ShortRead-cut : (i value scale : ℕ) (bytes : List ℕ) → ShortRead i value scale bytes → i < 5 → length bytes ≤ i → HasValue (vint32 bytes) → ⊥
@@ -46,23 +40,23 @@ ShortRead-cut i value scale bytes p early ended =
     let none : drop i bytes ≡ [] = drop_all i bytes ended in
     let cut : Takes (λ (n : ℕ). n) byte (Some (drop i bytes)) (Some (drop i bytes)) (Err Ended) =
     record { cause = ap byte none; gone = ([], refl); within = λ x rest taken. let no = sym (ap byte none) ∙ taken in absurd cc } in
-    cut_has_none (vint32 bytes) (GroupsRead-cut (λ (n : ℕ). n) vint32 fits_u32 (5 - i) (4 - i) i value scale (Some bytes) (Some (drop i bytes)) (Some (drop i bytes)) Ended IsTaking-fits_u32 p (omega arith) cut).cause
+    cut_has_none (vint32 bytes) (GroupsRead-cut (λ (n : ℕ). n) vint32 (fits_below (2 ^ 32)) (5 - i) (4 - i) i value scale (Some bytes) (Some (drop i bytes)) (Some (drop i bytes)) Ended (IsTaking-fits_below (2 ^ 32)) p (omega arith) cut).cause
 
 -- the last group, of a number that fits
 pub ShortRead-last : (i value scale : ℕ) (bytes : List ℕ) → ShortRead i value scale bytes → i < 5 → i < length bytes → 128 ≤ get_or bytes i 0
     → value + scale * (get_or bytes i 0 - 128) < 2 ^ 32 → vint32 bytes ≡ Value (value + scale * (get_or bytes i 0 - 128)) (drop (i + 1) bytes)
 ShortRead-last i value scale bytes p early within large fits =
     let n = value + scale * (get_or bytes i 0 - 128) in
-    GroupsRead-last (λ (n : ℕ). n) vint32 fits_u32 (5 - i) (4 - i) i value scale (get_or bytes i 0) (Some bytes) (Some (drop i bytes)) (Some (drop (i + 1) bytes)) n p (omega arith) large (byte_at i bytes within)
-    (λ more. fits_u32-is n more fits)
+    GroupsRead-last (λ (n : ℕ). n) vint32 (fits_below (2 ^ 32)) (5 - i) (4 - i) i value scale (get_or bytes i 0) (Some bytes) (Some (drop i bytes)) (Some (drop (i + 1) bytes)) n p (omega arith) large (byte_at i bytes within)
+    (λ more. fits_below-is (2 ^ 32) n more fits)
 
 -- the last group, of one that doesn't
 pub ShortRead-large : (i value scale : ℕ) (bytes : List ℕ) → ShortRead i value scale bytes → i < 5 → i < length bytes → 128 ≤ get_or bytes i 0
     → (2 ^ 32) ≤ value + scale * (get_or bytes i 0 - 128) → HasValue (vint32 bytes) → ⊥
 ShortRead-large i value scale bytes p early within large over =
     let n = value + scale * (get_or bytes i 0 - 128) in
-    wrong_has_none (vint32 bytes) (GroupsRead-large (λ (n : ℕ). n) vint32 fits_u32 (5 - i) (4 - i) i value scale (get_or bytes i 0) (Some bytes) (Some (drop i bytes)) (Some (drop (i + 1) bytes)) p (omega arith) large (byte_at i bytes within)
-    (λ more. fits_u32-not n more over)).cause
+    wrong_has_none (vint32 bytes) (GroupsRead-large (λ (n : ℕ). n) vint32 (fits_below (2 ^ 32)) (5 - i) (4 - i) i value scale (get_or bytes i 0) (Some bytes) (Some (drop i bytes)) (Some (drop (i + 1) bytes)) p (omega arith) large (byte_at i bytes within)
+    (λ more. fits_below-not (2 ^ 32) n more over)).cause
 
 -- a sixth group would be needed
 pub ShortRead-long : (i value scale : ℕ) (bytes : List ℕ) → ShortRead i value scale bytes → 5 ≤ i → HasValue (vint32 bytes) → ⊥
@@ -70,14 +64,7 @@ ShortRead-long i value scale bytes p late =
     let none : 5 - i ≡ 0 = omega arith in
     let now : Option (List ℕ) = Some (drop i bytes) in
     wrong_has_none (vint32 bytes) (Takes-whole (λ (n : ℕ). n) vint32 refuse (Some bytes) now now (Err Invalid)
-    (GoesOn-trans vint32 (after fits_u32 value scale 0) refuse (Some bytes) now now (rw none at p.goes_on) (GoesOn-none fits_u32 value scale now)) (Takes-refuse (λ (n : ℕ). n) now)).cause
-
--- no sum passes 64 bits
-pub ShortRead-fits : (i value scale b : ℕ) (bytes : List ℕ) → ShortRead i value scale bytes → i < 5 → b < 128 → value + scale * b < 2 ^ 35
-ShortRead-fits i value scale b bytes p early small = let fits : value + scale * b < limit 5 = group_fits value scale b i 5 p.below p.scaled small early in omega (arith, fits)
-
-pub ShortRead-scale : (i value scale : ℕ) (bytes : List ℕ) → ShortRead i value scale bytes → i < 5 → scale * 128 < 2 ^ 64
-ShortRead-scale i value scale bytes p early = let next : 128 * limit i ≤ limit 5 = limit-rising i 5 early in omega (arith, next, p.scaled)
+    (GoesOn-trans vint32 (after (fits_below (2 ^ 32)) value scale 0) refuse (Some bytes) now now (rw none at p.goes_on) (GoesOn-none (fits_below (2 ^ 32)) value scale now)) (Takes-refuse (λ (n : ℕ). n) now)).cause
 
 -- what is told of the last group, by whether the number fits
 pub ShortRead-found : (i value scale : ℕ) (bytes : List ℕ) (r : Option (ℕ × ℕ)) → ShortRead i value scale bytes → i < 5 → i < length bytes → 128 ≤ get_or bytes i 0

@@ -1,4 +1,4 @@
--- The laws of texts and lists.
+-- A reader of contracts may skip this file: the laws of texts and lists.
 use Rattle.std.proofs.Common.{◌≡◌, ℕ, zero, suc, ◌≤◌, List, [], ◌∷◌, ◌++◌, length, map, Bool, refl, ap, ◌∙◌, arith, append_assoc}
 use Rattle.std.proofs.lemmas.List.{length-map}
 use Rattle.std.specs.Prelude.{nat_le, All, IsUtf8}

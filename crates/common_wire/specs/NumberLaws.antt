@@ -1,4 +1,4 @@
--- The laws of numbers of a fixed width.
+-- A reader of contracts may skip this file: the laws of numbers of a fixed width.
 use Rattle.std.proofs.Common.{◌≡◌, ℕ, ◌+◌, ◌*◌, ◌/◌, ◌%◌, ◌^◌, ◌<◌, ℤ, List, ◌++◌, length, Bool, true, false, refl, ap, sym, ◌∙◌, arith}
 use Rattle.std.specs.Prelude.{nat_lt, ◌==◌, FitsSigned}
 use Rattle.std.specs.Int.{Width, w16, w32, w64, w128, byte_len, to_le_bytes, from_le_bytes, cast_signed, cast_unsigned}

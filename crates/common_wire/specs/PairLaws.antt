@@ -1,14 +1,9 @@
--- A pair is spelled by its first and then its second.
+-- A reader of contracts may skip this file: the laws of pairs.
 use Rattle.std.proofs.Common.{◌≡◌, List, ℕ, ◌++◌, ap, ◌∙◌, append_assoc, length, length-append, ◌+◌, ◌-◌, ◌^◌, min, arith}
 use Rattle.common_wire.specs.Taking.{Taking, Value, continued, ◌>>=◌, give}
+use Rattle.common_wire.specs.Wire.{pair}
 use Rattle.common_wire.specs.Serialized.{IsTaking}
 use Rattle.common_wire.specs.TakingLaws.{IsTaking-give, IsTaking-then}
-
-unfoldable pub pair : {A B : Type 0} → Taking A → Taking B → Taking (A × B)
-pair first second = do
-  a ← first
-  b ← second
-  give (a, b)
 
 pub IsTaking-pair : {A B : Type 0} (first : Taking A) (second : Taking B) → IsTaking first → IsTaking second → IsTaking (pair first second)
 unfolding pair

@@ -3,6 +3,7 @@ use Rattle.std.specs.Prelude.{ℕ, zero, suc, ◌+◌, ◌-◌, ◌*◌, ◌/◌
 use Rattle.std.specs.Int.{Width, byte_len, from_le_bytes, cast_signed, w64}
 use Rattle.std.specs.List.{flat_map}
 use Rattle.std.specs.Str.{is_utf8}
+use Rattle.common_wire.specs.Serialized.{limit}
 use Rattle.common_wire.specs.Taking.{Taking, ◌>>=◌, give, refuse, only_if, byte, bytes_of, counted}
 
 -- a number of a fixed width, its lowest byte first
@@ -40,26 +41,30 @@ unfoldable pub group_bytes : ℕ → ℕ → List ℕ
 group_bytes zero n = []
 group_bytes (suc k) n = if nat_lt n 128 then (n + 128) ∷ [] else n % 128 ∷ group_bytes k (n / 128)
 
+-- a number below the bound, in at most so many groups
+unfoldable pub number_below : ℕ → ℕ → Taking ℕ
+number_below k bound = do
+  n ← groups k
+  only_if (nat_lt n bound) (give n)
+
+-- a number of at most so many groups and one more, which is below `top`
+abbrev pub groups_below : ℕ → ℕ → Taking ℕ
+groups_below more top = number_below (more + 1) (limit more * top)
+
 -- a number below 2 ^ 64, of at most ten bytes
 unfoldable pub vint : Taking ℕ
-vint = do
-  n ← groups 10
-  only_if (nat_lt n (2 ^ 64)) (give n)
+vint = number_below 10 (2 ^ 64)
 
 unfoldable pub vint_bytes : ℕ → List ℕ
 vint_bytes n = group_bytes 10 n
 
 -- a number below 2 ^ 32, of at most five bytes
 unfoldable pub vint32 : Taking ℕ
-vint32 = do
-  n ← groups 5
-  only_if (nat_lt n (2 ^ 32)) (give n)
+vint32 = number_below 5 (2 ^ 32)
 
 -- a number below 2 ^ 128, of at most nineteen bytes
 unfoldable pub vint128 : Taking ℕ
-vint128 = do
-  n ← groups 19
-  only_if (nat_lt n (2 ^ 128)) (give n)
+vint128 = number_below 19 (2 ^ 128)
 
 unfoldable pub vint128_bytes : ℕ → List ℕ
 vint128_bytes n = group_bytes 19 n
@@ -103,3 +108,10 @@ list_of item = do
 
 unfoldable pub list_bytes : {A : Type 0} → (A → List ℕ) → List A → List ℕ
 list_bytes item xs = vint_bytes (length xs) ++ flat_map item xs
+
+-- a first value, and then a second one
+unfoldable pub pair : {A B : Type 0} → Taking A → Taking B → Taking (A × B)
+pair first second = do
+  a ← first
+  b ← second
+  give (a, b)

@@ -102,6 +102,7 @@ fn unit(n: u64) -> u64
     }
 }
 
+// The name of that unit.
 fn name(n: u64) -> &'static str
     ensures { result.now ≡ unit_name n }
 {
@@ -141,6 +142,11 @@ impl fmt::Display for ByteCount {
 }
 
 impl fmt::Debug for ByteCount {
+    ghost use Rattle.std.specs.Prelude.{Some};
+    ghost use Rattle.common_wire.specs.ByteText.{byte_text};
+
+    ghost debug_output = { λ b. Some (byte_text b) };
+
     fn fmt<W: fmt::Write>(&self, f: &mut fmt::Formatter<W>) -> fmt::Result {
         fmt::Display::fmt(self, f)
     }

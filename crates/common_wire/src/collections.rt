@@ -1,10 +1,10 @@
 // Texts and lists.
-ghost use Rattle.std.specs.Prelude.{◌≡◌, ◌≢◌, ℕ, List, ◌+◌, ◌-◌, ◌^◌, ◌≤◌, ◌<◌, ◌++◌, length, map, min, All, Err, IfOk, IfErr, IsUtf8, string_bytes};
+ghost use Rattle.std.specs.Prelude.{◌≡◌, ◌≢◌, ℕ, List, ◌+◌, ◌-◌, ◌^◌, ◌≤◌, ◌<◌, ◌++◌, length, map, min, All, IfOk, IfErr, IsUtf8, string_bytes};
 ghost use Rattle.std.specs.List.{flat_map};
-ghost use Rattle.owned_bytes.specs.Outside.{HasCause, WritesAll};
+ghost use Rattle.owned_bytes.specs.Outside.{HasCause, WritesAll, SinkFailed};
 ghost use Rattle.common_wire.specs.Taking.{bytes_of, counted};
 ghost use Rattle.common_wire.specs.Wire.{length_taken, max_length, text, text_of, text_bytes, blob, list_of, list_bytes, vint_bytes};
-ghost use Rattle.common_wire.specs.Serialized.{Takes};
+ghost use Rattle.common_wire.specs.Serialized.{SourceFailed, Takes, WritesEach};
 
 use crate::reading::read_exact;
 use crate::{BinarySerializable, VInt, WireError};
@@ -18,7 +18,7 @@ pub const MAX_LENGTH: u64 = 0xffff_ffff;
 // A length, which is at most the greatest one.
 fn deserialize_length<R: Source>(reader: &mut R) -> Result<u64, WireError>
     ensures bytes { Takes (λ (n : ℕ). n) length_taken (R.left reader.old) (R.left reader.new) result }
-    ensures cause { HasCause (R.faults reader.old) (R.faults reader.new) (result ≡ Err WireError.Failed) }
+    ensures cause { HasCause (R.faults reader.old) (R.faults reader.new) (SourceFailed result) }
     ensures taken { R.taken reader.old ≤ R.taken reader.new }
     ensures bound { IfOk result (λ n. n ≤ max_length) }
 {
@@ -29,17 +29,17 @@ fn deserialize_length<R: Source>(reader: &mut R) -> Result<u64, WireError>
     Ok(length)
 }
 
-// Room for a list grows with what is read: no more than this is taken before.
+// Room for bytes grows with what is read, so many at a time: no more than this is taken before.
 const FIRST_ROOM: usize = 4096;
 
 // So many bytes, read piece by piece.
 fn read_bytes<R: Source>(alloc: Global, count: usize, reader: &mut R) -> Result<Vec<u8>, WireError>
     ensures bytes { Takes (λ v. v.items) (bytes_of count) (R.left reader.old) (R.left reader.new) result }
-    ensures cause { HasCause (R.faults reader.old) (R.faults reader.new) (result ≡ Err WireError.Failed) }
+    ensures cause { HasCause (R.faults reader.old) (R.faults reader.new) (SourceFailed result) }
     ensures taken { R.taken reader.old ≤ R.taken reader.new }
 {
     let mut bytes = Vec::with_capacity(alloc, count.min(FIRST_ROOM))?;
-    let mut buf = [0u8; 4096];
+    let mut buf = [0u8; FIRST_ROOM];
     while bytes.len() < count {
         let piece = (count - bytes.len()).min(buf.len());
         read_exact(reader, &mut buf[..piece])?;
@@ -51,7 +51,7 @@ fn read_bytes<R: Source>(alloc: Global, count: usize, reader: &mut R) -> Result<
 // So many bytes of UTF-8.
 fn read_text<R: Source>(alloc: Global, count: usize, reader: &mut R) -> Result<String, WireError>
     ensures bytes { Takes string_bytes (text_of count) (R.left reader.old) (R.left reader.new) result }
-    ensures cause { HasCause (R.faults reader.old) (R.faults reader.new) (result ≡ Err WireError.Failed) }
+    ensures cause { HasCause (R.faults reader.old) (R.faults reader.new) (SourceFailed result) }
     ensures taken { R.taken reader.old ≤ R.taken reader.new }
 {
     let bytes = read_bytes(alloc, count, reader)?;
@@ -64,7 +64,7 @@ fn read_text<R: Source>(alloc: Global, count: usize, reader: &mut R) -> Result<S
 // A length, and then so many bytes.
 fn read_blob<R: Source>(alloc: Global, reader: &mut R) -> Result<Vec<u8>, WireError>
     ensures bytes { Takes (λ v. v.items) blob (R.left reader.old) (R.left reader.new) result }
-    ensures cause { HasCause (R.faults reader.old) (R.faults reader.new) (result ≡ Err WireError.Failed) }
+    ensures cause { HasCause (R.faults reader.old) (R.faults reader.new) (SourceFailed result) }
     ensures taken { R.taken reader.old ≤ R.taken reader.new }
 {
     let count = deserialize_length(reader)?;
@@ -74,12 +74,13 @@ fn read_blob<R: Source>(alloc: Global, reader: &mut R) -> Result<Vec<u8>, WireEr
 // A text's bytes.
 fn serialize_text<W: Sink>(text: &[u8], writer: &mut W) -> Result<(), SinkError>
     ensures bytes { WritesAll (W.written writer.old) (W.written writer.new) result (text_bytes text.now) }
-    ensures cause { HasCause (W.faults writer.old) (W.faults writer.new) (result ≡ Err SinkError.Failed) }
+    ensures cause { HasCause (W.faults writer.old) (W.faults writer.new) (SinkFailed result) }
 {
     VInt(text.len() as u64).serialize(writer)?;
     writer.write_all(text)
 }
 
+// How many bytes a text is written in.
 fn text_num_bytes(text: &[u8]) -> u64
     ensures { result ≡ min (length (text_bytes text.now)) (2 ^ 64 - 1) }
 {
@@ -129,8 +130,8 @@ fn serialize_items<T: BinarySerializable, W: Sink>(
     writer: &mut W,
 ) -> Result<(), SinkError>
     requires { All (λ x. T.can_write (T.shown x)) items.now }
-    ensures bytes { WritesAll (W.written writer.old) (W.written writer.new) result (flat_map (λ x. T.wire (T.as_written (T.shown x))) items.now) }
-    ensures cause { HasCause (W.faults writer.old) (W.faults writer.new) (result ≡ Err SinkError.Failed) }
+    ensures bytes { WritesEach (W.written writer.old) (W.written writer.new) result T.wire T.as_written T.shown items.now }
+    ensures cause { HasCause (W.faults writer.old) (W.faults writer.new) (SinkFailed result) }
 {
     for item in items {
         item.serialize(writer)?;
@@ -138,6 +139,7 @@ fn serialize_items<T: BinarySerializable, W: Sink>(
     Ok(())
 }
 
+// How many bytes the items are written in.
 fn items_num_bytes<T: BinarySerializable>(items: &[T]) -> u64
     requires { All (λ x. T.can_write (T.shown x)) items.now }
     ensures { result ≡ min (length (flat_map (λ x. T.wire (T.as_written (T.shown x))) items.now)) (2 ^ 64 - 1) }
@@ -152,15 +154,15 @@ fn items_num_bytes<T: BinarySerializable>(items: &[T]) -> u64
 // So many items, one after the other.
 fn deserialize_items<T: BinarySerializable + Drop, R: Source>(
     alloc: Global,
-    count: u64,
+    len: u64,
     reader: &mut R,
 ) -> Result<Vec<T>, WireError>
-    ensures bytes { Takes (λ v. map T.shown v.items) (counted count T.taking) (R.left reader.old) (R.left reader.new) result }
-    ensures cause { HasCause (R.faults reader.old) (R.faults reader.new) (result ≡ Err WireError.Failed) }
+    ensures bytes { Takes (λ v. map T.shown v.items) (counted len T.taking) (R.left reader.old) (R.left reader.new) result }
+    ensures cause { HasCause (R.faults reader.old) (R.faults reader.new) (SourceFailed result) }
     ensures taken { R.taken reader.old ≤ R.taken reader.new }
 {
     let mut items = Vec::new(alloc);
-    for turn in 0..count {
+    for turn in 0..len {
         let _ = turn;
         let item = T::deserialize(alloc, reader)?;
         items.push(item)?;

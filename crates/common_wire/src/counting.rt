@@ -1,8 +1,8 @@
 // A sink that counts what goes through it.
-ghost use Rattle.std.specs.Prelude.{◌≡◌, ◌+◌, ◌-◌, ◌^◌, min, length, Err, MatchResult};
+ghost use Rattle.std.specs.Prelude.{◌≡◌, length};
 ghost use Rattle.std.specs.Io.KnownBytes.{Keeps};
-ghost use Rattle.owned_bytes.specs.Outside.{HasCause, WritesAll};
-ghost use Rattle.common_wire.specs.Counting.{inner_sink, bytes_counted};
+ghost use Rattle.owned_bytes.specs.Outside.{HasCause, WritesAll, SinkFailed};
+ghost use Rattle.common_wire.specs.Counting.{inner_sink, bytes_counted, CountsBytes};
 
 use crate::{AntiCallToken, TerminatingWrite};
 use owned_bytes::{Sink, SinkError};
@@ -15,6 +15,7 @@ pub struct CountingWriter<W> {
 }
 
 impl<W: Sink> CountingWriter<W> {
+    /// A writer to the sink, which has counted nothing.
     pub fn wrap(underlying: W) -> Self
         ensures sink { inner_sink result ≡ underlying }
         ensures count { bytes_counted result ≡ 0 }
@@ -48,10 +49,8 @@ impl<W: Sink> Sink for CountingWriter<W> {
 
     fn write_all(&mut self, bytes: &[u8]) -> Result<(), SinkError>
         ensures bytes { WritesAll (W.written (inner_sink self.old)) (W.written (inner_sink self.new)) result bytes.now }
-        ensures cause { HasCause (W.faults (inner_sink self.old)) (W.faults (inner_sink self.new)) (result ≡ Err SinkError.Failed) }
-        ensures count { MatchResult result
-            (λ _. bytes_counted self.new ≡ min (bytes_counted self.old + length bytes.now) (2 ^ 64 - 1))
-            (λ _. bytes_counted self.new ≡ bytes_counted self.old) }
+        ensures cause { HasCause (W.faults (inner_sink self.old)) (W.faults (inner_sink self.new)) (SinkFailed result) }
+        ensures count { CountsBytes (bytes_counted self.old) (bytes_counted self.new) result (length bytes.now) }
     {
         self.underlying.write_all(bytes)?;
         self.written_bytes = self.written_bytes.saturating_add(bytes.len() as u64);
@@ -60,7 +59,7 @@ impl<W: Sink> Sink for CountingWriter<W> {
 
     fn flush(&mut self) -> Result<(), SinkError>
         ensures bytes { Keeps (W.written (inner_sink self.old)) (W.written (inner_sink self.new)) }
-        ensures cause { HasCause (W.faults (inner_sink self.old)) (W.faults (inner_sink self.new)) (result ≡ Err SinkError.Failed) }
+        ensures cause { HasCause (W.faults (inner_sink self.old)) (W.faults (inner_sink self.new)) (SinkFailed result) }
         ensures count { bytes_counted self.new ≡ bytes_counted self.old }
     {
         self.underlying.flush()
@@ -68,7 +67,22 @@ impl<W: Sink> Sink for CountingWriter<W> {
 }
 
 impl<W: TerminatingWrite> TerminatingWrite for CountingWriter<W> {
-    fn terminate_ref(&mut self, token: AntiCallToken) -> Result<(), SinkError> {
+    /// Ends the sink inside. The count stays.
+    fn terminate(self) -> (Self, Result<(), SinkError>)
+        ensures bytes { Keeps (W.written (inner_sink self)) (W.written (inner_sink result.0)) }
+        ensures cause { HasCause (W.faults (inner_sink self)) (W.faults (inner_sink result.0)) (SinkFailed result.1) }
+        ensures count { bytes_counted result.0 ≡ bytes_counted self }
+    {
+        let mut writer = self;
+        let answer = writer.terminate_ref(AntiCallToken(()));
+        (writer, answer)
+    }
+
+    fn terminate_ref(&mut self, token: AntiCallToken) -> Result<(), SinkError>
+        ensures bytes { Keeps (W.written (inner_sink self.old)) (W.written (inner_sink self.new)) }
+        ensures cause { HasCause (W.faults (inner_sink self.old)) (W.faults (inner_sink self.new)) (SinkFailed result) }
+        ensures count { bytes_counted self.new ≡ bytes_counted self.old }
+    {
         self.underlying.terminate_ref(token)
     }
 }

@@ -1,15 +1,18 @@
 // Slices of files.
-ghost use Rattle.std.specs.Prelude.{◌≡◌, ℕ, ◌+◌, ◌-◌, ◌*◌, ◌≤◌, ◌<◌, min, length, [], IfOk, IfSome, MatchOption, Err};
-ghost use Rattle.owned_bytes.specs.Outside.{HasCause, IsPart};
-ghost use Rattle.common_wire.specs.Slices.{span_len, part_of, piece_len, Counts};
+ghost use Rattle.std.specs.Prelude.{◌≡◌, ◌+◌, ◌-◌, ◌≤◌, IfOk};
+ghost use Rattle.owned_bytes.specs.Outside.{FileFailed, IsRead};
+ghost use Rattle.common_wire.specs.Slices.{span_len, part_of, next_len, IsPiece, ReadsPart};
 
 use crate::ByteCount;
-use owned_bytes::{FileHandle, HandleError, HasLen, OwnedBytes, WrapFile};
+use owned_bytes::{FileHandle, HandleError, HasLen, OwnedBytes, WrapFile, file_len};
 use std::alloc::Global;
 use std::fs::File;
 use std::marker::Model;
 use std::ops::Range;
 use std::rt::Files;
+
+// The size of a piece of `FileChunks`.
+const PIECE_LEN: usize = 1_048_576;
 
 /// A range of a file. It holds no file: a handle is passed to each call that reads.
 #[derive(Clone, Copy)]
@@ -43,9 +46,9 @@ impl FileSlice {
     /// The whole file.
     pub fn new<H: FileHandle>(handle: &H) -> FileSlice
         ensures start { result.start ≡ 0 }
-        ensures end { result.end ≡ H.size handle.now }
+        ensures end { result.end ≡ (H.state handle.now).size }
     {
-        FileSlice::new_with_num_bytes(handle.len())
+        FileSlice::new_with_num_bytes(file_len(handle))
     }
 
     /// The first so many bytes.
@@ -65,7 +68,7 @@ impl FileSlice {
         path: &str,
     ) -> Result<(WrapFile, FileSlice), HandleError>
         ensures start { IfOk result (λ opened. opened.1.start ≡ 0) }
-        ensures end { IfOk result (λ opened. opened.1.end ≡ ⟦<WrapFile as HasLen>⟧.size opened.0) }
+        ensures end { IfOk result (λ opened. opened.1.end ≡ (⟦<WrapFile as FileHandle>⟧.state opened.0).size) }
     {
         match File::open(files, path) {
             Ok(file) => {
@@ -162,19 +165,11 @@ impl FileSlice {
         alloc: Global,
         handle: &mut H,
     ) -> Result<OwnedBytes, HandleError>
-        requires { self.now.end ≤ H.size handle.old }
-        ensures bytes { IfOk result (λ part. IsPart (H.contents handle.old) self.now.start self.now.end part) }
-        ensures length { IfOk result (λ part. length part ≡ span_len self.now) }
-        ensures contents { H.contents handle.new ≡ H.contents handle.old }
-        ensures size { H.size handle.new ≡ H.size handle.old }
-        ensures cause { HasCause (H.faults handle.old) (H.faults handle.new) (result ≡ Err HandleError.Failed) }
-        ensures reads { Counts (span_len self.now ≡ 0) (H.reads handle.old) (H.reads handle.new) 1 }
-        ensures fetched { Counts (span_len self.now ≡ 0) (H.fetched handle.old) (H.fetched handle.new) (span_len self.now) }
+        requires { self.now.end ≤ (H.state handle.old).size }
+        ensures part { IfOk result (IsRead (H.state handle.old) self.now.start self.now.end) }
+        ensures reads { ReadsPart (H.state handle.old) (H.state handle.new) (FileFailed result) (span_len self.now) }
     {
-        if self.start == self.end {
-            return Ok(OwnedBytes::empty(alloc)?);
-        }
-        handle.read_bytes(alloc, self.start..self.end)
+        read_part(alloc, handle, self.range())
     }
 
     /// The bytes of a part of the slice.
@@ -184,17 +179,11 @@ impl FileSlice {
         handle: &mut H,
         range: Range<usize>,
     ) -> Result<OwnedBytes, HandleError>
-        requires handle { self.now.end ≤ H.size handle.old }
+        requires handle { self.now.end ≤ (H.state handle.old).size }
         requires ordered { range.start ≤ range.end }
         requires within { range.end ≤ span_len self.now }
-        ensures bytes { IfOk result (λ part.
-            IsPart (H.contents handle.old) (self.now.start + range.start) (self.now.start + range.end) part) }
-        ensures length { IfOk result (λ part. length part ≡ range.end - range.start) }
-        ensures contents { H.contents handle.new ≡ H.contents handle.old }
-        ensures size { H.size handle.new ≡ H.size handle.old }
-        ensures cause { HasCause (H.faults handle.old) (H.faults handle.new) (result ≡ Err HandleError.Failed) }
-        ensures reads { Counts (range.end ≡ range.start) (H.reads handle.old) (H.reads handle.new) 1 }
-        ensures fetched { Counts (range.end ≡ range.start) (H.fetched handle.old) (H.fetched handle.new) (range.end - range.start) }
+        ensures part { IfOk result (IsRead (H.state handle.old) (self.now.start + range.start) (self.now.start + range.end)) }
+        ensures reads { ReadsPart (H.state handle.old) (H.state handle.new) (FileFailed result) (range.end - range.start) }
     {
         let part = FileSlice {
             start: self.start + range.start,
@@ -209,6 +198,23 @@ impl FileSlice {
     {
         FileChunks { rest: *self }
     }
+}
+
+/// The bytes of the file at these places. Nothing is read where there are none.
+pub fn read_part<H: FileHandle>(
+    alloc: Global,
+    handle: &mut H,
+    range: Range<usize>,
+) -> Result<OwnedBytes, HandleError>
+    requires ordered { range.start ≤ range.end }
+    requires within { range.end ≤ (H.state handle.old).size }
+    ensures part { IfOk result (IsRead (H.state handle.old) range.start range.end) }
+    ensures reads { ReadsPart (H.state handle.old) (H.state handle.new) (FileFailed result) (range.end - range.start) }
+{
+    if range.start == range.end {
+        return Ok(OwnedBytes::empty(alloc)?);
+    }
+    handle.read_bytes(alloc, range)
 }
 
 /// The rest of a slice, which is read piece by piece. Contracts see what is left of it.
@@ -232,16 +238,10 @@ impl FileChunks {
         alloc: Global,
         handle: &mut H,
     ) -> Result<Option<OwnedBytes>, HandleError>
-        requires { self.old.end ≤ H.size handle.old }
-        ensures moves { self.new ≡ part_of self.old (min piece_len (span_len self.old)) (span_len self.old) }
-        ensures bytes { IfOk result (λ next. MatchOption next (span_len self.old ≡ 0) (λ piece. (0 < span_len self.old)
-            × IsPart (H.contents handle.old) self.old.start (self.old.start + min piece_len (span_len self.old)) piece)) }
-        ensures length { IfOk result (λ next. IfSome next (λ piece. length piece ≡ min piece_len (span_len self.old))) }
-        ensures contents { H.contents handle.new ≡ H.contents handle.old }
-        ensures size { H.size handle.new ≡ H.size handle.old }
-        ensures cause { HasCause (H.faults handle.old) (H.faults handle.new) (result ≡ Err HandleError.Failed) }
-        ensures reads { Counts (span_len self.old ≡ 0) (H.reads handle.old) (H.reads handle.new) 1 }
-        ensures fetched { Counts (span_len self.old ≡ 0) (H.fetched handle.old) (H.fetched handle.new) (min piece_len (span_len self.old)) }
+        requires { self.old.end ≤ (H.state handle.old).size }
+        ensures moves { self.new ≡ part_of self.old (next_len self.old) (span_len self.old) }
+        ensures piece { IfOk result (IsPiece (H.state handle.old) self.old) }
+        ensures reads { ReadsPart (H.state handle.old) (H.state handle.new) (FileFailed result) (next_len self.old) }
     {
         let len = self.rest.len();
         let (piece, rest) = self.rest.split(len.min(PIECE_LEN));
@@ -252,5 +252,3 @@ impl FileChunks {
         Ok(Some(piece.read_bytes(alloc, handle)?))
     }
 }
-
-const PIECE_LEN: usize = 1_048_576;

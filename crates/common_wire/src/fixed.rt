@@ -362,7 +362,8 @@ impl FixedSize for () {
 }
 
 impl<A: BinarySerializable + Drop, B: BinarySerializable> BinarySerializable for (A, B) {
-    ghost use Rattle.common_wire.specs.PairLaws.{pair, IsTaking-pair, pair-again};
+    ghost use Rattle.common_wire.specs.Wire.{pair};
+    ghost use Rattle.common_wire.specs.PairLaws.{IsTaking-pair, pair-again};
 
     type Shown = (A::Shown, B::Shown);
 

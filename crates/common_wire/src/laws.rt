@@ -1,7 +1,8 @@
 // The laws of serialization, as calls that do nothing.
-ghost use Rattle.std.specs.Prelude.{◌≡◌, ◌<◌, ◌^◌, ◌++◌, ◌↔◌, List, ℕ, ℤ, ◌<ℤ◌, [], FitsSigned};
+ghost use Rattle.std.specs.Prelude.{◌≡◌, ◌<◌, ◌^◌, ◌++◌, ◌↔◌, List, ℕ, ℤ, ◌<ℤ◌, FitsSigned};
 ghost use Rattle.std.specs.Int.{w64};
 ghost use Rattle.common_wire.specs.Taking.{Value};
+ghost use Rattle.common_wire.specs.Serialized.{IsReadAgain, BeginsNoOther};
 ghost use Rattle.common_wire.specs.Wire.{vint, vint32, vint_bytes};
 ghost use Rattle.common_wire.specs.Numbers.{shifted_up};
 
@@ -9,14 +10,12 @@ use crate::BinarySerializable;
 
 /// What was written is read again, whatever follows.
 pub fn written_is_read_again<T: BinarySerializable>()
-    ensures { (v : T.Shown) (rest : List ℕ) → T.is_value v → T.can_write v
-        → T.taking (T.wire (T.as_written v) ++ rest) ≡ Value (T.as_written v) rest }
+    ensures { (v : T.Shown) → T.is_value v → T.can_write v → IsReadAgain T.taking T.wire T.as_written v }
 {}
 
 /// No spelling of a value begins another spelling.
 pub fn no_spelling_begins_another<T: BinarySerializable>()
-    ensures { (bytes more : List ℕ) (v w : T.Shown) → T.taking bytes ≡ Value v [] → T.taking (bytes ++ more) ≡ Value w []
-        → (v ≡ w) × (more ≡ []) }
+    ensures { BeginsNoOther T.taking }
 {}
 
 /// What `write_u32_vint` wrote is read again by the `u32` calls, whatever follows, and where they read a number, a `VInt`

@@ -7,6 +7,7 @@ mod counting;
 mod error;
 mod file_slice;
 mod fixed;
+mod groups;
 mod key_tracking;
 mod laws;
 mod numbers;
@@ -21,7 +22,7 @@ pub use byte_count::ByteCount;
 pub use collections::MAX_LENGTH;
 pub use counting::CountingWriter;
 pub use error::WireError;
-pub use file_slice::{FileChunks, FileSlice};
+pub use file_slice::{FileChunks, FileSlice, read_part};
 pub use key_tracking::{KeyTracking, WithoutKeys};
 pub use laws::{
     no_spelling_begins_another, signed_numbers_keep_their_order, u32_vint_is_a_vint,
@@ -29,9 +30,9 @@ pub use laws::{
 };
 pub use numbers::{i64_to_u64, replace_in_place, u64_to_i64};
 pub use owned_bytes::{
-    BytesFile, FileHandle, HandleError, HasLen, Ids, Items, Key, KeyList, MemFile, MemSink,
-    MemSource, OwnedBytes, Sink, SinkError, SliceSource, Source, SourceFault, StdSink, StdSource,
-    Text, Texts, VecSink, WrapFile,
+    BytesFile, CloneIn, FileHandle, HandleError, HasLen, Ids, Items, Key, KeyList, MemFile,
+    MemSink, MemSource, OwnedBytes, Sink, SinkError, SliceSource, Source, SourceFault, StdSink,
+    StdSource, Text, Texts, VecSink, WrapFile, file_len, last_u32, last_u64,
 };
 pub use serialize::{BinarySerializable, DeserializeFrom, FixedSize};
 pub use slice_handle::SliceHandle;

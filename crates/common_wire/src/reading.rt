@@ -1,16 +1,16 @@
 // Bytes off the front of a source.
-ghost use Rattle.std.specs.Prelude.{◌≡◌, ◌≢◌, ◌≤◌, IfErr, ℕ, List, length, Err};
+ghost use Rattle.std.specs.Prelude.{◌≡◌, ◌≢◌, ◌≤◌, IfErr, ℕ, List, length};
 ghost use Rattle.owned_bytes.specs.Outside.{HasCause};
 ghost use Rattle.common_wire.specs.Taking.{byte, bytes_of};
-ghost use Rattle.common_wire.specs.Serialized.{Takes};
+ghost use Rattle.common_wire.specs.Serialized.{SourceFailed, Takes};
 
 use crate::WireError;
 use owned_bytes::Source;
 
-/// The next byte.
+// The next byte.
 pub(crate) fn read_byte<R: Source>(reader: &mut R) -> Result<u8, WireError>
     ensures bytes { Takes (λ b. b) byte (R.left reader.old) (R.left reader.new) result }
-    ensures cause { HasCause (R.faults reader.old) (R.faults reader.new) (result ≡ Err WireError.Failed) }
+    ensures cause { HasCause (R.faults reader.old) (R.faults reader.new) (SourceFailed result) }
     ensures taken { R.taken reader.old ≤ R.taken reader.new }
     ensures no_memory { IfErr result (λ e. e ≢ WireError.Memory) }
 {
@@ -22,10 +22,10 @@ pub(crate) fn read_byte<R: Source>(reader: &mut R) -> Result<u8, WireError>
     }
 }
 
-/// Fills the buffer with the next bytes.
+// Fills the buffer with the next bytes.
 pub(crate) fn read_exact<R: Source>(reader: &mut R, buf: &mut [u8]) -> Result<(), WireError>
     ensures bytes { Takes (λ _. buf.new) (bytes_of (length buf.old)) (R.left reader.old) (R.left reader.new) result }
-    ensures cause { HasCause (R.faults reader.old) (R.faults reader.new) (result ≡ Err WireError.Failed) }
+    ensures cause { HasCause (R.faults reader.old) (R.faults reader.new) (SourceFailed result) }
     ensures taken { R.taken reader.old ≤ R.taken reader.new }
     ensures no_memory { IfErr result (λ e. e ≢ WireError.Memory) }
 {
@@ -40,10 +40,10 @@ pub(crate) fn read_exact<R: Source>(reader: &mut R, buf: &mut [u8]) -> Result<()
     Ok(())
 }
 
-/// The next N bytes.
+// The next N bytes.
 pub(crate) fn read_array<R: Source, const N: usize>(reader: &mut R) -> Result<[u8; N], WireError>
     ensures bytes { Takes (λ bytes. bytes) (bytes_of N) (R.left reader.old) (R.left reader.new) result }
-    ensures cause { HasCause (R.faults reader.old) (R.faults reader.new) (result ≡ Err WireError.Failed) }
+    ensures cause { HasCause (R.faults reader.old) (R.faults reader.new) (SourceFailed result) }
     ensures taken { R.taken reader.old ≤ R.taken reader.new }
     ensures no_memory { IfErr result (λ e. e ≢ WireError.Memory) }
 {

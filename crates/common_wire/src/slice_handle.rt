@@ -1,6 +1,7 @@
 // A part of a file as a file of its own.
-ghost use Rattle.std.specs.Prelude.{◌≡◌, ◌-◌, ◌≤◌};
-ghost use Rattle.common_wire.specs.SliceLaws.{part_told, part_told-length};
+ghost use Rattle.std.specs.Prelude.{◌≡◌, ◌-◌, ◌≤◌, refl};
+ghost use Rattle.common_wire.specs.Slices.{part_state};
+ghost use Rattle.common_wire.specs.SliceLaws.{part_told-length};
 
 use crate::FileSlice;
 use owned_bytes::{FileHandle, HandleError, HasLen, OwnedBytes};
@@ -14,17 +15,14 @@ pub struct SliceHandle<'a, H: FileHandle> {
     start: usize,
     end: usize,
     ghost ordered: { start ≤ end },
-    ghost within: { end ≤ H.size handle.now },
+    ghost within: { end ≤ (H.state handle.now).size },
 }
 
 impl<'a, H: FileHandle> SliceHandle<'a, H> {
+    /// The part of the file that the slice covers.
     pub fn new(handle: &'a mut H, slice: FileSlice) -> SliceHandle<'a, H>
-        requires { slice.end ≤ H.size handle.old }
-        ensures contents { ⟦<SliceHandle<'a, H> as FileHandle>⟧.contents result ≡ part_told slice.start slice.end (H.contents handle.old) }
-        ensures size { ⟦<SliceHandle<'a, H> as HasLen>⟧.size result ≡ slice.end - slice.start }
-        ensures faults { ⟦<SliceHandle<'a, H> as FileHandle>⟧.faults result ≡ H.faults handle.old }
-        ensures reads { ⟦<SliceHandle<'a, H> as FileHandle>⟧.reads result ≡ H.reads handle.old }
-        ensures fetched { ⟦<SliceHandle<'a, H> as FileHandle>⟧.fetched result ≡ H.fetched handle.old }
+        requires { slice.end ≤ (H.state handle.old).size }
+        ensures { ⟦<SliceHandle<'a, H> as FileHandle>⟧.state result ≡ part_state slice.start slice.end (H.state handle.old) }
     {
         let range = slice.range();
         SliceHandle {
@@ -44,15 +42,11 @@ impl<'a, H: FileHandle> HasLen for SliceHandle<'a, H> {
 }
 
 impl<'a, H: FileHandle> FileHandle for SliceHandle<'a, H> {
-    ghost contents = { λ it. part_told it.start it.end (H.contents it.handle.now) };
+    ghost state = { λ it. part_state it.start it.end (H.state it.handle.now) };
 
-    ghost faults = { λ it. H.faults it.handle.now };
+    ghost size_is = { λ _. refl };
 
-    ghost reads = { λ it. H.reads it.handle.now };
-
-    ghost fetched = { λ it. H.fetched it.handle.now };
-
-    ghost contents_len = { λ it. part_told-length it.start it.end (H.size it.handle.now) (H.contents it.handle.now) it.ordered it.within (H.contents_len it.handle.now) };
+    ghost contents_len = { λ it. part_told-length it.start it.end (H.state it.handle.now).size (H.state it.handle.now).contents it.ordered it.within (H.contents_len it.handle.now) };
 
     fn read_bytes(
         &mut self,

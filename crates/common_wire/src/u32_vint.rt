@@ -3,6 +3,9 @@ ghost use Rattle.std.specs.Prelude.{◌≡◌, ◌<◌, ◌≤◌, ◌^◌, ◌�
 ghost use Rattle.common_wire.specs.Taking.{Value, HasValue};
 ghost use Rattle.common_wire.specs.Wire.{vint32};
 
+// The most bytes that spell a number of 32 bits.
+const U32_VINT_LEN: usize = 5;
+
 // The number at the front, and how many bytes spell it.
 fn u32_vint_at(bytes: &[u8]) -> Option<(u32, usize)>
     ensures found { IfSome result (λ f. (f.1 ≤ length bytes.now) × (vint32 bytes.now ≡ Value f.0 (drop f.1 bytes.now))) }
@@ -10,7 +13,7 @@ fn u32_vint_at(bytes: &[u8]) -> Option<(u32, usize)>
 {
     let mut value: u64 = 0;
     let mut scale: u64 = 1;
-    for i in 0..5usize {
+    for i in 0..U32_VINT_LEN {
         if i >= bytes.len() {
             return None;
         }

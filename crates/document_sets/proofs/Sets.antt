@@ -1,13 +1,11 @@
 -- Laws of sets of documents.
-use Rattle.std.proofs.Common.{◌≡◌, ℕ, ◌+◌, ◌<◌, ◌&&◌, ◌||◌, not, Bool, true, false, List, [], ◌∷◌, ◌++◌, length, All, refl, sym, ap, ◌∙◌, arith, nat_eq, ltb, cond, filter, add-one, zero-add, append-nil}
+use Rattle.std.proofs.Common.{◌≡◌, ℕ, ◌+◌, ◌<◌, ◌&&◌, ◌||◌, not, Bool, true, false, List, [], ◌∷◌, ◌++◌, length, All, refl, sym, ap, ◌∙◌, arith, nat_eq, ltb}
 use Rattle.std.specs.Prelude.{◌==◌}
 use Rattle.std.specs.Cmp.{nat_cmp_total}
 use Rattle.std.specs.FinSet.{empty, insert, contains, union, intersection, difference, from_list, from_list_push, nat_cmp-IsAntisymmetric}
 use Rattle.std.proofs.lemmas.Bool.{lt-ltb, ltb-true, false≢true, eqb-true}
 use Rattle.std.proofs.lemmas.List.Elements.{All-head, All-tail}
-use Rattle.common_bitset.specs.Numbers.{Numbers, below, IsBelow, rising}
-use Rattle.std.specs.List.{range_with_len}
-use Rattle.common_bitset.specs.Laws.Ranges.{range_more, filter_more}
+use Rattle.common_bitset.specs.Numbers.{Numbers, below, IsBelow}
 use Rattle.common_bitset.specs.Laws.Sets.{alike, contains_insert, contains_below, contains_union, contains_intersection, contains_difference, contains_empty}
 use Rattle.document_sets.specs.Members.{with_numbers}
 
@@ -35,7 +33,7 @@ and_swapped : (b c : Bool) → (b ≡ true → c ≡ true) → (b && c) ≡ b
 and_swapped true c h = h refl
 and_swapped false c h = refl
 
-or_cases : (b c : Bool) {P : Type 0} → (b ≡ true → P) → (c ≡ true → P) → (b || c) ≡ true → P
+pub or_cases : (b c : Bool) {P : Type 0} → (b ≡ true → P) → (c ≡ true → P) → (b || c) ≡ true → P
 or_cases true c left right h = left refl
 or_cases false c left right h = right h
 
@@ -165,30 +163,5 @@ pub with-more : (s : Numbers) (numbers : List ℕ) (k : ℕ) → with_numbers s 
 with-more s numbers k =
     ap (λ t. union s t) (from_list_push nat_cmp_total nat_cmp-IsAntisymmetric numbers k) ∙ union-insert s (from_list numbers) k
 
-pub full-with : (n : ℕ) (numbers : List ℕ) → All (λ number. number < n) numbers → with_numbers (below n) numbers ≡ below n
-full-with n numbers all = full-union n (from_list numbers) (IsBelow-from_list n numbers all)
-
 pub IsBelow-with : (n : ℕ) (s : Numbers) (numbers : List ℕ) → IsBelow n s → All (λ number. number < n) numbers → IsBelow n (with_numbers s numbers)
 IsBelow-with n s numbers within all = IsBelow-union n s (from_list numbers) within (IsBelow-from_list n numbers all)
-
--- ---- the ascending list
-
-step : (p : ℕ → Bool) (n : ℕ) → filter p (range_with_len 0 (n + 1)) ≡ filter p (range_with_len 0 n) ++ cond (p n) (n ∷ []) []
-step p n =
-    ap (λ m. filter p (range_with_len 0 m)) (add-one n) ∙ ap (filter p) (range_more 0 n) ∙ filter_more p (range_with_len 0 n) (0 + n)
-    ∙ ap (λ m. filter p (range_with_len 0 n) ++ cond (p m) (m ∷ []) []) (zero-add n)
-
-pub list-more : (s : Numbers) (n : ℕ) (ids : List ℕ) → contains s n ≡ true → ids ≡ filter (contains s) (range_with_len 0 n)
-    → ids ++ n ∷ [] ≡ filter (contains s) (range_with_len 0 (n + 1))
-list-more s n ids here so_far =
-    ap (λ xs. xs ++ n ∷ []) so_far ∙ ap (λ b. filter (contains s) (range_with_len 0 n) ++ cond b (n ∷ []) []) (sym here) ∙ sym (step (contains s) n)
-
-pub list-same : (s : Numbers) (n : ℕ) (ids : List ℕ) → contains s n ≡ false → ids ≡ filter (contains s) (range_with_len 0 n)
-    → ids ≡ filter (contains s) (range_with_len 0 (n + 1))
-list-same s n ids absent so_far =
-    so_far ∙ sym (append-nil (filter (contains s) (range_with_len 0 n)))
-    ∙ ap (λ b. filter (contains s) (range_with_len 0 n) ++ cond b (n ∷ []) []) (sym absent) ∙ sym (step (contains s) n)
-
-pub all-rising : (s : Numbers) (n end : ℕ) (ids : List ℕ) → end ≡ n → ids ≡ filter (contains s) (range_with_len 0 end) → ids ≡ rising n s
-unfolding rising
-all-rising s n end ids ended so_far = so_far ∙ ap (λ m. filter (contains s) (range_with_len 0 m)) ended

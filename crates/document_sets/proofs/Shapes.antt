@@ -1,12 +1,16 @@
 -- A set of documents by the kind of its members.
 use Rattle.std.proofs.Common.{◌≡◌, ℕ, ◌^◌, ◌<◌, List, All, sym, ap, ◌∙◌, subst}
 use Rattle.std.specs.FinSet.{empty, union, intersection, difference}
-use Rattle.common_bitset.specs.Numbers.{Numbers, below, IsBelow}
+use Rattle.common_bitset.specs.Numbers.{Numbers, below, IsBelow, rising}
 use Rattle.common_bitset.specs.Subset.{Subset, IsProper}
 use Rattle.document_sets.specs.declared.document_set.Members.{Members}
 use Rattle.document_sets.specs.declared.document_set.Members.TheVariants.{Nothing, Everything, Listed}
 use Rattle.document_sets.specs.Members.{elements_of, AreWithin, with_numbers}
-use Rattle.document_sets.proofs.Sets.{IsBelow-none, IsBelow-full, IsBelow-complement, IsBelow-union, IsBelow-intersection, IsBelow-with, none-union, full-union, none-intersection, full-intersection}
+use Rattle.document_sets.specs.declared.found.Found.{Found}
+use Rattle.document_sets.specs.declared.found.Found.TheVariants as found
+use Rattle.document_sets.specs.Found.{elements_found, AreFound}
+use Rattle.document_sets.proofs.Lists.{rising-list}
+use Rattle.document_sets.proofs.Sets.{IsBelow-from_list, IsBelow-none, IsBelow-full, IsBelow-complement, IsBelow-union, IsBelow-intersection, IsBelow-with, none-union, full-union, none-intersection, full-intersection}
 
 -- the set that members show
 abbrev pub shown : ℕ → Members → Subset
@@ -18,9 +22,6 @@ nothing-is n m s is seen = sym (ap (elements_of n) is) ∙ ap (λ t. t.elements)
 pub everything-is : (n : ℕ) (m : Members) (s : Subset) → m ≡ Everything → shown n m ≡ s → below s.max_value ≡ s.elements
 everything-is n m s is seen = ap below (sym (ap (λ t. t.max_value) seen)) ∙ sym (ap (elements_of n) is) ∙ ap (λ t. t.elements) seen
 
-pub listed-is : (n : ℕ) (m : Members) (bits s : Subset) → m ≡ Listed bits → shown n m ≡ s → bits.elements ≡ s.elements
-listed-is n m bits s is seen = sym (ap (elements_of n) is) ∙ ap (λ t. t.elements) seen
-
 proper_shown : (n : ℕ) (m : Members) → AreWithin n m → IsProper (shown n m)
 proper_shown n Nothing within = record { within = IsBelow-none n; small = within }
 proper_shown n Everything within = record { within = IsBelow-full n; small = within }
@@ -28,11 +29,6 @@ proper_shown n (Listed bits) within = record { within = within.2; small = within
 
 pub proper : (n : ℕ) (m : Members) (s : Subset) → AreWithin n m → shown n m ≡ s → IsProper s
 proper n m s within seen = subst IsProper seen (proper_shown n m within)
-
-pub listed-proper : (n : ℕ) (m : Members) (bits : Subset) → AreWithin n m → m ≡ Listed bits → IsProper bits
-listed-proper n m bits within is =
-    let w = subst (AreWithin n) is within in
-    record { within = subst (λ k. IsBelow k bits.elements) (sym w.1) w.2; small = subst (λ k. k < 2 ^ 32) (sym w.1) w.0 }
 
 pub complement-proper : (bits new : Subset) → IsProper bits → new.max_value ≡ bits.max_value → new.elements ≡ difference (below bits.max_value) bits.elements → IsProper new
 complement-proper bits new proper bound elements = record {
@@ -107,3 +103,19 @@ pub nothing-small : (n : ℕ) (m : Members) → AreWithin n m → n < 2 ^ 32
 nothing-small n Nothing within = within
 nothing-small n Everything within = within
 nothing-small n (Listed bits) within = within.0
+
+-- ---- documents that were found
+
+found_shown : (n : ℕ) (f : Found) → AreFound n f → IsProper (record { elements = elements_found f; max_value = n })
+found_shown n (found.Listed numbers) is = record { within = IsBelow-from_list n numbers is.2; small = is.0 }
+found_shown n (found.Gathered s) is = record { within = subst (λ k. IsBelow k s.elements) is.0 is.1.within; small = subst (λ k. k < 2 ^ 32) is.0 is.1.small }
+
+pub found-proper : (n : ℕ) (f : Found) (s : Subset) → AreFound n f → record { elements = elements_found f; max_value = n } ≡ s → IsProper s
+found-proper n f s is seen = subst IsProper seen (found_shown n f is)
+
+-- the numbers of a list are those of the set that it shows, ascending
+pub listed-ids : (n : ℕ) (f : Found) (numbers : List ℕ) (s : Subset) → AreFound n f → f ≡ found.Listed numbers → record { elements = elements_found f; max_value = n } ≡ s
+    → numbers ≡ rising s.max_value s.elements
+listed-ids n f numbers s within is seen =
+    let are = subst (AreFound n) is within in
+    rising-list n numbers are.1 are.2 ∙ ap (λ g. rising n (elements_found g)) (sym is) ∙ ap (λ t. rising t.max_value t.elements) seen

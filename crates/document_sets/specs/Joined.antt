@@ -48,3 +48,7 @@ chosen j =
 -- those chosen that are in no excluded set
 abbrev pub joined_elements : Joined → Numbers
 joined_elements j = difference (chosen j) (unwrap_or j.excluded empty)
+
+-- a clause with no required and no offered set
+abbrev pub only_excluded : ℕ → Option Numbers → Joined
+only_excluded documents excluded = record { documents = documents; required = None; excluded = excluded; offered = None }

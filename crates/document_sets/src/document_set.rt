@@ -40,6 +40,7 @@ impl Model for DocSet {
 }
 
 impl DocSet {
+    /// The set of no document.
     pub fn empty(documents: u32) -> DocSet
         ensures { result ≡ record { elements = set.empty; max_value = documents } }
     {
@@ -81,6 +82,7 @@ impl DocSet {
         self.documents
     }
 
+    /// Whether the document is a member.
     pub fn contains(&self, document: u32) -> bool
         requires { document < self.now.max_value }
         ensures { result ≡ set.contains self.now.elements document }
@@ -205,21 +207,38 @@ impl DocSet {
         }
     }
 
-    /// The members, ascending.
+    /// The members, ascending. Words without members are passed at once.
     pub fn to_ids(&self, alloc: Global) -> Result<Ids, AllocError>
         ensures { IfOk result (λ ids. ids ≡ rising self.now.max_value self.now.elements) }
     {
-        let mut ids = Ids::new(alloc);
-        if let Members::Nothing = &self.members {
-            return Ok(ids);
+        match &self.members {
+            Members::Nothing => Ok(Ids::new(alloc)),
+            Members::Everything => all_below(alloc, self.documents),
+            Members::Listed(bits) => elements_of(alloc, bits),
         }
-        for document in 0..self.documents {
-            if self.contains(document) {
-                ids.push(document)?;
-            }
-        }
-        Ok(ids)
     }
+}
+
+// All numbers below a bound, ascending.
+fn all_below(alloc: Global, bound: u32) -> Result<Ids, AllocError>
+    ensures { IfOk result (λ ids. ids ≡ rising bound (below bound)) }
+{
+    let mut ids = Ids::new(alloc);
+    for number in 0..bound {
+        ids.push(number)?;
+    }
+    Ok(ids)
+}
+
+// The elements, ascending.
+fn elements_of(alloc: Global, bits: &BitSet) -> Result<Ids, AllocError>
+    ensures { IfOk result (λ ids. ids ≡ rising bits.now.max_value bits.now.elements) }
+{
+    let mut ids = Ids::new(alloc);
+    for element in bits.iter() {
+        ids.push(element)?;
+    }
+    Ok(ids)
 }
 
 // Inserts each of the numbers.

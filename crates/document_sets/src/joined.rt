@@ -2,7 +2,7 @@
 ghost use Rattle.std.specs.Prelude.{◌≡◌, Some, None, unwrap_or};
 ghost use Rattle.std.specs.Option.{option_or};
 ghost use Rattle.std.specs.FinSet as set;
-ghost use Rattle.document_sets.specs.Joined.{met, united, joined_elements, elements_in, IsOver};
+ghost use Rattle.document_sets.specs.Joined.{met, united, joined_elements, only_excluded, elements_in, IsOver};
 
 use crate::DocSet;
 use std::marker::Model;
@@ -110,7 +110,7 @@ fn without(chosen: DocSet, excluded: Option<DocSet>) -> DocSet
 // All documents but the excluded ones; none where there is no such set.
 fn others(documents: u32, excluded: Option<DocSet>) -> DocSet
     requires { IsOver documents excluded }
-    ensures elements { result.elements ≡ joined_elements (record { documents = documents; required = None; excluded = elements_in excluded; offered = None }) }
+    ensures elements { result.elements ≡ joined_elements (only_excluded documents (elements_in excluded)) }
     ensures max_value { result.max_value ≡ documents }
 {
     match excluded {

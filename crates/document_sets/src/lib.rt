@@ -2,7 +2,9 @@
 #![tactic(auto)]
 
 mod document_set;
+mod found;
 mod joined;
 
 pub use document_set::DocSet;
+pub use found::FoundDocuments;
 pub use joined::JoinedSets;

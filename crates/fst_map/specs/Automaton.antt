@@ -56,6 +56,10 @@ beginning_with prefix key = starts_with nat_eq key prefix
 abbrev pub either : (Key → Bool) → (Key → Bool) → Key → Bool
 either one other key = one key || other key
 
+-- the third machine takes what one of two machines takes, whatever they take
+abbrev pub TakesEither : {S T U : Type 0} → Machine S → Machine T → Machine U → Type 0
+TakesEither left right joined = (one other : Key → Bool) → Takes left one → Takes right other → Takes joined (either one other)
+
 -- the machine that takes every key
 abbrev pub always : Machine (Unit {0})
 always = record {

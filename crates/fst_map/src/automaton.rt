@@ -1,6 +1,6 @@
 // Machines that read byte strings byte by byte.
-ghost use Rattle.std.specs.Prelude.{◌≡◌, Bool, List, ℕ};
-ghost use Rattle.fst_map.specs.Automaton.{Machine, IsLawful, Takes, every_key, only, beginning_with, either, always, exact, prefixed, joint};
+ghost use Rattle.std.specs.Prelude.{◌≡◌};
+ghost use Rattle.fst_map.specs.Automaton.{Machine, IsLawful, Takes, TakesEither, only, beginning_with, always, exact, prefixed, joint};
 
 /// A machine that reads a byte string byte by byte, and says which it takes.
 pub trait Automaton {
@@ -69,6 +69,7 @@ pub struct Exact<'a> {
 }
 
 impl<'a> Exact<'a> {
+    /// Takes this key.
     pub fn new(key: &'a [u8]) -> Exact<'a>
         ensures { Takes (⟦<Exact<'a> as Automaton>⟧.machine result) (only key.now) }
     {
@@ -120,6 +121,7 @@ pub struct StartsWith<'a> {
 }
 
 impl<'a> StartsWith<'a> {
+    /// Takes the keys that begin with this prefix.
     pub fn new(prefix: &'a [u8]) -> StartsWith<'a>
         ensures { Takes (⟦<StartsWith<'a> as Automaton>⟧.machine result) (beginning_with prefix.now) }
     {
@@ -174,8 +176,9 @@ pub struct Union<A, B> {
 }
 
 impl<A: Automaton, B: Automaton> Union<A, B> {
+    /// Takes what `left` or `right` takes.
     pub fn new(left: A, right: B) -> Union<A, B>
-        ensures { (one other : List ℕ → Bool) → Takes (A.machine left) one → Takes (B.machine right) other → Takes (⟦<Union<A, B> as Automaton>⟧.machine result) (either one other) }
+        ensures { TakesEither (A.machine left) (B.machine right) (⟦<Union<A, B> as Automaton>⟧.machine result) }
     {
         Union { left, right }
     }

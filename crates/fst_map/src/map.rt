@@ -66,6 +66,7 @@ fn push_entry(table: &mut Vec<u8>, end: u64, value: u64) -> Result<(), AllocErro
 }
 
 impl MapBuilder {
+    /// The map without keys.
     pub fn new(alloc: Global) -> MapBuilder
         ensures { result ≡ [] }
     {

@@ -4,12 +4,12 @@ use Rattle.std.specs.declared.ops.Range.{Range}
 use Rattle.std.specs.List.{list_all}
 use Rattle.owned_bytes.specs.Front.{◌>>=◌, provided}
 use Rattle.owned_bytes.specs.Keys.{Key}
-use Rattle.sstable_blocks.specs.Codec.{range}
-use Rattle.tantivy_sstable.specs.Table.{sst_of}
-use Rattle.term_documents.specs.declared.documents.Pair.{Pair}
-use Rattle.term_documents.specs.declared.documents.Doc.{Doc}
-use Rattle.term_documents.specs.Documents.{AreValidDocuments, is_field, is_short}
-use Rattle.term_documents.specs.Postings.{Postings, gather}
+use Rattle.sstable_values.specs.Codec.{range}
+use Rattle.sstable_format.specs.Table.{sst_of}
+use Rattle.documents.specs.declared.documents.Pair.{Pair}
+use Rattle.documents.specs.declared.documents.Doc.{Doc}
+use Rattle.documents.specs.Documents.{AreValidDocuments, is_field, is_short}
+use Rattle.documents.specs.Postings.{Postings, gather}
 use Rattle.index_file.specs.Header.{Header, header_at, numbers_in}
 
 -- nonempty ranges that adjoin from start to end

@@ -1,7 +1,8 @@
 -- Which files can be opened.
 use Rattle.std.specs.Prelude.{◌≡◌, ℕ, List, Bool, true, false, None, is_some}
 use Rattle.owned_bytes.specs.Front.{◌>>=◌, provided}
-use Rattle.tantivy_sstable.specs.Opening.{is_waiting, has_known_version, has_unknown_version}
+use Rattle.sstable_format.specs.Refused.{is_waiting}
+use Rattle.sstable_format.specs.Version.{has_known_version, has_unknown_version}
 use Rattle.index_file.specs.Header.{header_at}
 use Rattle.index_file.specs.IndexFile.{table_of}
 

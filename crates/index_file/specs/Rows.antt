@@ -1,8 +1,8 @@
 -- Worked files.
 use Rattle.std.specs.Prelude.{◌≡◌, ℕ, List, [], ◌∷◌, take, codes, None}
-use Rattle.sstable_blocks.specs.Hex.{hex}
-use Rattle.term_documents.specs.declared.documents.Pair.{Pair}
-use Rattle.term_documents.specs.declared.documents.Doc.{Doc}
+use Rattle.sstable_values.specs.Hex.{hex}
+use Rattle.documents.specs.declared.documents.Pair.{Pair}
+use Rattle.documents.specs.declared.documents.Doc.{Doc}
 use Rattle.index_file.specs.IndexFile.{IsIndexOf, table_of}
 
 -- a pair of the field f

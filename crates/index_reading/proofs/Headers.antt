@@ -5,10 +5,11 @@ use Rattle.std.specs.Int.{Width, byte_len, w32, w64, from_le_bytes}
 use Rattle.std.specs.Prelude.{is_some, not}
 use Rattle.owned_bytes.specs.Front.{◌>>=◌, provided, number_at, bytes_at}
 use Rattle.owned_bytes.specs.Outside.{HasLength}
-use Rattle.sstable_blocks.specs.Codec.{range}
-use Rattle.tantivy_sstable.specs.Table.{sst_of}
-use Rattle.tantivy_sstable.specs.Opening.{is_known, has_unknown_version, is_waiting}
-use Rattle.tantivy_sstable.proofs.Ends.{at_end-none, number_at-front, bytes_at-front, bytes_at-none}
+use Rattle.sstable_values.specs.Codec.{range}
+use Rattle.sstable_format.specs.Table.{sst_of}
+use Rattle.sstable_format.specs.Version.{is_known, has_unknown_version}
+use Rattle.sstable_format.specs.Refused.{is_waiting}
+use Rattle.sstable_format.proofs.Ends.{at_end-none, number_at-front, bytes_at-front, bytes_at-none}
 use Rattle.index_file.specs.Header.{Header, packed_length, header_at}
 use Rattle.index_file.specs.IndexFile.{table_of, postings_of}
 use Rattle.index_file.specs.Opening.{IsDamaged, is_waiting_file}

@@ -1,8 +1,9 @@
+pub mod Failures
 pub mod Headers
 pub mod Versions
 pub mod TableLaws
+pub mod Openings
 pub mod Rising
-pub mod Gathered
 pub mod Places
 pub mod Lookups
 pub mod PartsRead

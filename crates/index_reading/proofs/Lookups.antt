@@ -1,40 +1,35 @@
 -- What the numbers at a key are.
-use Rattle.std.proofs.Common.{◌≡◌, ℕ, ◌+◌, ◌-◌, ◌*◌, ◌<◌, ◌≤◌, ◌⊎◌, ⊎_elim, inl, inr, List, [], ◌∷◌, length, take, drop, map, All, Option, Some, None, Result, Ok, Err, Bool, true, false, refl, ap, sym, ◌∙◌, subst, arith, length-take, length-drop}
-use Rattle.std.specs.Prelude.{nat_lt, ◌&&◌, ◌==◌, option_map, unwrap_or, if◌then◌else◌}
+use Rattle.std.proofs.Common.{◌≡◌, ℕ, ◌+◌, ◌-◌, ◌<◌, ◌≤◌, ◌⊎◌, ⊎_elim, inl, inr, List, [], ◌∷◌, length, take, drop, map, All, Option, Some, None, Result, Ok, Err, Bool, true, false, refl, ap, sym, ◌∙◌, subst, arith, length-take, length-drop}
+use Rattle.std.specs.Prelude.{nat_lt, ◌&&◌, ◌==◌, option_map, unwrap_or, if◌then◌else◌, IfSome}
 use Rattle.std.specs.List.{list_all}
 use Rattle.std.specs.declared.ops.Range.{Range}
 use Rattle.std.proofs.lemmas.List.Elements.{All-nil, All-cons}
 use Rattle.std.proofs.lemmas.Bool.{and_parts, ltb-true, eqb-true}
 use Rattle.owned_bytes.specs.Front.{◌>>=◌, provided}
 use Rattle.owned_bytes.specs.Keys.{Key, is_same}
-use Rattle.owned_bytes.specs.Outside.{RisesAtMost}
-use Rattle.sstable_blocks.specs.Codec.{range}
+use Rattle.owned_bytes.specs.Outside.{FileState}
+use Rattle.sstable_values.specs.Codec.{range}
 use Rattle.sstable_blocks.specs.Run.{Block}
-use Rattle.tantivy_bitpacker.specs.Packed.{bytes_for}
 use Rattle.tantivy_bitpacker.proofs.Unpacking.{length-unpacked_from}
-use Rattle.tantivy_sstable.specs.Between.{value_at}
-use Rattle.tantivy_sstable.specs.Opened.{entries_in, entries_told, blocks_told, FetchesBlock}
-use Rattle.tantivy_sstable.specs.Reading.{FindsTold}
-use Rattle.tantivy_sstable.specs.declared.errors.SstError.{SstError}
-use Rattle.term_documents.specs.Postings.{Postings}
-use Rattle.index_file.specs.Header.{width_of, packed_length, numbers_in}
+use Rattle.sstable_format.specs.Entries.{value_at}
+use Rattle.tantivy_sstable.specs.Opened.{entries_in, entries_told, blocks_told, FetchesBlock, ReadsBlocks}
+use Rattle.tantivy_sstable.specs.Finding.{FindsTold}
+use Rattle.sstable_index.specs.declared.errors.SstError.{SstError}
+use Rattle.documents.specs.Postings.{Postings}
+use Rattle.index_file.specs.Header.{width_of, numbers_in}
 use Rattle.index_file.specs.IndexFile.{adjoin, is_increasing, is_key, with_numbers, is_posting, postings_of}
 use Rattle.index_reading.specs.declared.open.OpenIndex.{OpenIndex}
 use Rattle.index_reading.specs.declared.errors.IndexError.{IndexError}
 use Rattle.index_reading.specs.declared.errors.IndexError.TheVariants.{Memory, Read, Corrupt, Compressed, Version, NotYet}
 use Rattle.index_reading.specs.Opened.{header_of, postings_in, postings_told, AreNumbers}
-use Rattle.index_reading.specs.LookUp.{LooksUp, LooksUpTold, GivesPlaces, FetchesParts, FetchesNumbers, blocks_length, numbers_length}
-use Rattle.index_reading.specs.Steps.{Told, error_of_table}
+use Rattle.index_reading.specs.Errors.{error_of_table}
+use Rattle.index_reading.specs.LookUp.{LooksUp, LooksUpTold, GivesPlaces, FetchesParts, FetchesNumbers, ReadsNumbers, blocks_length, numbers_length, places_length}
 
 -- the numbers from one place to another
 abbrev pub part_of : List ℕ → Range ℕ → List ℕ
 part_of numbers places = take (places.end - places.start) (drop places.start numbers)
 
 -- ---- what stands at a key
-
-value_at-step : {V : Type 0} (key : Key) (entry : Key × V) (entries : List (Key × V)) → value_at key (entry ∷ entries) ≡ (if is_same key entry.0 then Some entry.1 else value_at key entries)
-unfolding value_at
-value_at-step key entry entries = refl
 
 pub value_at-numbers : (numbers : List ℕ) (key : Key) (entries : List (Key × Range ℕ)) → value_at key (map (with_numbers numbers) entries) ≡ option_map (part_of numbers) (value_at key entries)
 unfolding value_at
@@ -179,11 +174,11 @@ looks-error index contents key start e error is_error finds = by-postings index 
 
 -- what was given of the places, where the contents are told
 told-given : (index : OpenIndex) (contents : Option (List ℕ)) (file : List ℕ) (places : Range ℕ) (result : Result (List ℕ) IndexError) → contents ≡ Some file
-    → Told contents (GivesPlaces index places.start places.end result) → GivesPlaces index places.start places.end result file
-told-given index contents file places result is given = subst (λ o. Told o (GivesPlaces index places.start places.end result)) is given
+    → IfSome contents (GivesPlaces index places.start places.end result) → GivesPlaces index places.start places.end result file
+told-given index contents file places result is given = subst (λ o. IfSome o (GivesPlaces index places.start places.end result)) is given
 
 pub looks-found : (index : OpenIndex) (contents : Option (List ℕ)) (key : Key) (places : Range ℕ) (numbers : List ℕ) → FindsTold (λ r. r) (entries_told range index.dictionary contents) key (Ok (Some places))
-    → Told contents (GivesPlaces index places.start places.end (Ok numbers)) → LooksUpTold (postings_told index contents) key (Ok (Some numbers))
+    → IfSome contents (GivesPlaces index places.start places.end (Ok numbers)) → LooksUpTold (postings_told index contents) key (Ok (Some numbers))
 looks-found index contents key places numbers finds given = by-postings index contents key (Ok (Some numbers)) (λ file postings is h.
     let found = finds-in index file postings key h (Ok (Some places)) (told-finding index contents file key (Ok (Some places)) is finds) in
     ap Some (told-given index contents file places (Ok numbers) is given).0
@@ -204,7 +199,7 @@ gives-error index file postings key places (Version version) h found given = abs
 gives-error index file postings key places NotYet h found given = absurd given
 
 pub looks-refused : (index : OpenIndex) (contents : Option (List ℕ)) (key : Key) (places : Range ℕ) (e : IndexError) → FindsTold (λ r. r) (entries_told range index.dictionary contents) key (Ok (Some places))
-    → Told contents (GivesPlaces index places.start places.end (Err e)) → LooksUpTold (postings_told index contents) key (Err e)
+    → IfSome contents (GivesPlaces index places.start places.end (Err e)) → LooksUpTold (postings_told index contents) key (Err e)
 looks-refused index contents key places e finds given = by-postings index contents key (Err e) (λ file postings is h.
     let found = finds-in index file postings key h (Ok (Some places)) (told-finding index contents file key (Ok (Some places)) is finds) in
     gives-error index file postings key places e h found (told-given index contents file places (Err e) is given))
@@ -220,35 +215,32 @@ key-length index file postings key places h found =
     ap (λ o. length (unwrap_or o [])) (at-postings index file postings key h ∙ ap (option_map (part_of numbers)) (sym found))
     ∙ length-take (places.end - places.start) (drop places.start numbers) ∙ omega (arith, length-drop places.start numbers, long, within.0, within.1)
 
-block-alone : (index : OpenIndex) (blocks : Option (List (Block (Range ℕ)))) (postings : Option Postings) (key : Key) (before now : ℕ) → FetchesBlock blocks before now → RisesAtMost before now (blocks_length index)
+block-alone : (index : OpenIndex) (blocks : Option (List (Block (Range ℕ)))) (postings : Option Postings) (key : Key) (before now : FileState) → FetchesBlock blocks before.fetched now.fetched
+    → now.fetched ≤ before.fetched + blocks_length index → FetchesParts index blocks postings key before now
+block-alone index None None key before now block all = omega (arith, all)
+block-alone index None (Some postings) key before now block all = omega (arith, all)
+block-alone index (Some blocks) None key before now block all = omega (arith, all)
+block-alone index (Some blocks) (Some postings) key before now block all = omega (arith, block)
+
+pub fetches-block : (index : OpenIndex) (key : Key) (before now : FileState) (P : Type 0) → ReadsBlocks range index.dictionary before now P → FetchesNumbers index key before now
+fetches-block index key before now P reads =
+    block-alone index (blocks_told range index.dictionary before.contents) (postings_told index before.contents) key before now reads.block reads.reads.fetched
+
+block-and-part : (index : OpenIndex) (blocks : Option (List (Block (Range ℕ)))) (postings : Option Postings) (key : Key) (before middle now : FileState) (count : ℕ) (P : Type 0) → FetchesBlock blocks before.fetched middle.fetched
+    → middle.fetched ≤ before.fetched + blocks_length index → ReadsNumbers index count middle now P → ((found : Postings) → postings ≡ Some found → places_length index count ≡ numbers_length index found key)
     → FetchesParts index blocks postings key before now
-block-alone index None None key before now block rises = record { later = rises.later; bound = omega (arith, rises.bound) }
-block-alone index None (Some postings) key before now block rises = record { later = rises.later; bound = omega (arith, rises.bound) }
-block-alone index (Some blocks) None key before now block rises = record { later = rises.later; bound = omega (arith, rises.bound) }
-block-alone index (Some blocks) (Some postings) key before now block rises = record { later = rises.later; bound = omega (arith, block) }
+block-and-part index None None key before middle now count P block all part is = omega (arith, all, part.reads.fetched)
+block-and-part index None (Some postings) key before middle now count P block all part is = omega (arith, all, part.reads.fetched)
+block-and-part index (Some blocks) None key before middle now count P block all part is = omega (arith, all, part.reads.fetched)
+block-and-part index (Some blocks) (Some postings) key before middle now count P block all part is = omega (arith, block, part.numbers, is postings refl)
 
-pub fetches-block : (index : OpenIndex) (contents : Option (List ℕ)) (key : Key) (before now : ℕ) → FetchesBlock (blocks_told range index.dictionary contents) before now → RisesAtMost before now (blocks_length index)
-    → FetchesNumbers index contents key before now
-fetches-block index contents key before now block rises = block-alone index (blocks_told range index.dictionary contents) (postings_told index contents) key before now block rises
-
-block-and-part : (index : OpenIndex) (blocks : Option (List (Block (Range ℕ)))) (postings : Option Postings) (key : Key) (before middle now n : ℕ) → FetchesBlock blocks before middle → RisesAtMost before middle (blocks_length index)
-    → RisesAtMost middle now n → RisesAtMost middle now (packed_length index.documents index.count) → ((found : Postings) → postings ≡ Some found → n ≡ numbers_length index found key)
-    → FetchesParts index blocks postings key before now
-block-and-part index None None key before middle now n block rises part all is = record { later = omega (arith, rises.later, part.later); bound = omega (arith, rises.bound, all.bound) }
-block-and-part index None (Some postings) key before middle now n block rises part all is = record { later = omega (arith, rises.later, part.later); bound = omega (arith, rises.bound, all.bound) }
-block-and-part index (Some blocks) None key before middle now n block rises part all is = record { later = omega (arith, rises.later, part.later); bound = omega (arith, rises.bound, all.bound) }
-block-and-part index (Some blocks) (Some postings) key before middle now n block rises part all is =
-    record { later = omega (arith, rises.later, part.later); bound = omega (arith, block, part.bound, is postings refl) }
-
-pub fetches-both : (index : OpenIndex) (contents : Option (List ℕ)) (key : Key) (places : Range ℕ) (before middle now : ℕ) → FindsTold (λ r. r) (entries_told range index.dictionary contents) key (Ok (Some places))
-    → FetchesBlock (blocks_told range index.dictionary contents) before middle → RisesAtMost before middle (blocks_length index)
-    → RisesAtMost middle now (28 + bytes_for ((places.end - places.start) * width_of index.documents)) → RisesAtMost middle now (packed_length index.documents index.count)
-    → FetchesNumbers index contents key before now
-fetches-both index contents key places before middle now finds block rises part all =
-    block-and-part index (blocks_told range index.dictionary contents) (postings_told index contents) key before middle now (28 + bytes_for ((places.end - places.start) * width_of index.documents)) block rises part all (each contents finds)
+pub fetches-both : (index : OpenIndex) (key : Key) (places : Range ℕ) (before middle now : FileState) (P Q : Type 0) → FindsTold (λ r. r) (entries_told range index.dictionary before.contents) key (Ok (Some places))
+    → ReadsBlocks range index.dictionary before middle P → ReadsNumbers index (places.end - places.start) middle now Q → FetchesNumbers index key before now
+fetches-both index key places before middle now P Q finds reads part =
+    block-and-part index (blocks_told range index.dictionary before.contents) (postings_told index before.contents) key before middle now (places.end - places.start) Q reads.block reads.reads.fetched part (each before.contents finds)
   where
     each : (contents : Option (List ℕ)) → FindsTold (λ r. r) (entries_told range index.dictionary contents) key (Ok (Some places)) → (found : Postings) → postings_told index contents ≡ Some found
-        → 28 + bytes_for ((places.end - places.start) * width_of index.documents) ≡ numbers_length index found key
+        → places_length index (places.end - places.start) ≡ numbers_length index found key
     each None finds found is = absurd (nothing is)
       where
         nothing : None ≡ Some found → ⊥
@@ -256,4 +248,4 @@ fetches-both index contents key places before middle now finds block rises part 
     each (Some file) finds found is =
         let h = has-entries index file found is in
         let at = finds-in index file found key h (Ok (Some places)) finds in
-        ap (λ n. 28 + bytes_for (n * width_of index.documents)) (sym (key-length index file found key places h at))
+        ap (places_length index) (sym (key-length index file found key places h at))

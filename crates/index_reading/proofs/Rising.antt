@@ -1,13 +1,17 @@
 -- Rising numbers of documents.
-use Rattle.std.proofs.Common.{◌≡◌, ℕ, suc, ◌+◌, ◌<◌, ◌≤◌, ◌⊎◌, ⊎_elim, List, [], ◌∷◌, ◌++◌, length, drop, get_or, Option, Some, None, Bool, true, false, All, refl, ap, sym, ◌∙◌, arith, add-one}
+use Rattle.std.proofs.Common.{◌≡◌, ℕ, suc, ◌+◌, ◌<◌, ◌≤◌, ◌⊎◌, ⊎_elim, List, [], ◌∷◌, length, drop, get_or, Option, Some, None, Bool, true, false, All, refl, ap, sym, ◌∙◌, arith, add-one}
 use Rattle.std.specs.Prelude.{nat_le, nat_lt, ◌&&◌, if◌then◌else◌}
 use Rattle.std.proofs.Math.Seq.{drop-cons}
 use Rattle.std.proofs.lemmas.Bool.{and_parts, and_from, le-leb, leb-true, lt-ltb, ltb-true, le-ltb, lt-leb}
 use Rattle.std.proofs.lemmas.List.Elements.{All-nil, All-cons, All-head, All-tail}
-use Rattle.owned_bytes.specs.Front.{◌>>=◌}
 use Rattle.index_file.specs.IndexFile.{is_increasing}
 use Rattle.index_reading.specs.Opened.{AreNumbers}
-use Rattle.index_reading.specs.Numbers.{least_after}
+
+-- Where each number is at least `least`, above the ones before it and below `documents`: the least number that could follow.
+unfoldable pub least_after : ℕ → ℕ → List ℕ → Option ℕ
+least_after documents least [] = Some least
+least_after documents least (number ∷ numbers) =
+    if nat_le least number && nat_lt number documents then least_after documents (number + 1) numbers else None
 
 if_some : (t : Bool) (x : Option ℕ) (n : ℕ) → (if t then x else None) ≡ Some n → (t ≡ true) × (x ≡ Some n)
 if_some true x n e = (refl, e)
@@ -51,14 +55,6 @@ pub least-stop : (documents least : ℕ) (numbers : List ℕ) (i : ℕ) → i < 
     → least_after documents least (drop i numbers) ≡ None
 least-stop documents least numbers i within out =
     ap (least_after documents least) (drop-cons numbers i 0 within) ∙ least-refused documents least (get_or numbers i 0) (drop (suc i) numbers) out
-
-pub least-append : (documents least : ℕ) (xs ys : List ℕ) → least_after documents least (xs ++ ys) ≡ (least_after documents least xs >>= (λ next. least_after documents next ys))
-unfolding least_after
-least-append documents least [] ys = refl
-least-append documents least (x ∷ xs) ys =
-    let more = least-append documents (x + 1) xs ys in
-    elim (nat_le least x && nat_lt x documents) as (λ t. (if t then least_after documents (x + 1) (xs ++ ys) else None) ≡ ((if t then least_after documents (x + 1) xs else None) >>= (λ next. least_after documents next ys)))
-    [ true ↦ more | false ↦ refl ]
 
 -- ---- they rise
 

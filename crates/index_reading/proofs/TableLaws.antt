@@ -3,27 +3,31 @@ use Rattle.std.proofs.Common.{◌≡◌, ℕ, ◌+◌, ◌-◌, ◌^◌, ◌<◌
 use Rattle.std.proofs.lemmas.Bool.{leb-true, leb-false, false≢true}
 use Rattle.std.proofs.lemmas.List.{take_all, take-take, drop-take}
 use Rattle.std.specs.Int.{w8, w32, from_le_bytes}
-use Rattle.std.specs.Prelude.{is_some, slice_range, unwrap_or, option_map, nat_le, ◌&&◌, ◌==◌}
+use Rattle.std.specs.Prelude.{is_some, slice_range, unwrap_or, option_map, nat_le, ◌&&◌, ◌==◌, IfSome}
 use Rattle.common_wire.specs.Slices.{Span}
 use Rattle.owned_bytes.specs.Front.{◌>>=◌, provided, number_at}
 use Rattle.owned_bytes.specs.Outside.{HasLength}
-use Rattle.sstable_blocks.specs.Codec.{range}
-use Rattle.tantivy_sstable.specs.Table.{sst_of}
+use Rattle.sstable_values.specs.Codec.{range}
+use Rattle.sstable_format.specs.Table.{sst_of}
 use Rattle.tantivy_sstable.specs.Opened.{Opened, entries_in}
-use Rattle.tantivy_sstable.specs.Opening.{table_blocks, version_of, is_waiting, is_compressed_at, index_part_of, OpensAt, FetchesIndex}
-use Rattle.tantivy_sstable.specs.Reading.{TellsPlace, TellsPlaceAt}
-use Rattle.tantivy_sstable.proofs.Ends.{number_at-front}
-use Rattle.tantivy_sstable.specs.declared.errors.SstError.{SstError}
-use Rattle.tantivy_sstable.specs.declared.errors.SstError.TheVariants as tables
+use Rattle.sstable_format.specs.Table.{table_blocks, index_part_of}
+use Rattle.sstable_format.specs.Version.{version_of}
+use Rattle.sstable_format.specs.Refused.{is_waiting, is_compressed_at}
+use Rattle.tantivy_sstable.specs.Opening.{OpensAt, FetchesIndex}
+use Rattle.tantivy_sstable.specs.Finding.{TellsPlace, TellsPlaceAt}
+use Rattle.sstable_format.proofs.Ends.{number_at-front}
+use Rattle.sstable_index.specs.declared.errors.SstError.{SstError}
+use Rattle.sstable_index.specs.declared.errors.SstError.TheVariants as tables
 use Rattle.index_file.specs.Header.{Header, packed_length}
 use Rattle.index_file.specs.IndexFile.{table_of, postings_of}
 use Rattle.index_file.specs.Opening.{is_waiting_file}
 use Rattle.index_reading.specs.declared.errors.IndexError.{IndexError}
 use Rattle.index_reading.specs.declared.errors.IndexError.TheVariants.{Memory, Read, Corrupt, Compressed, Version, NotYet}
 use Rattle.index_reading.specs.Opened.{header_of, postings_in}
-use Rattle.index_reading.specs.Opening.{Opens, OpensTold, FetchesOpening, index_part_in}
-use Rattle.index_reading.specs.Steps.{Told, ReadsVersion, IsReadError, HasHead, HasTable, FetchesTable, error_of_table}
-use Rattle.index_reading.specs.LookUp.{NamesCompressed, IsPartError}
+use Rattle.index_reading.specs.Errors.{IsReadError, error_of_table}
+use Rattle.index_reading.specs.Opening.{Opens, OpensTold, index_part_in}
+use Rattle.index_reading.specs.Steps.{ReadsVersion, HasHead, HasTable, header_in}
+use Rattle.index_reading.specs.LookUp.{NamesCompressed}
 use Rattle.index_reading.proofs.Headers.{number_at-short, header_at-found, header_at-far, header_at-short, damaged-none}
 use Rattle.index_reading.proofs.Versions.{version_of-part}
 
@@ -51,7 +55,7 @@ none-by : (file : List ℕ) (documents count start : ℕ) → HasTable documents
 unfolding table_of
 none-by file documents count start t none =
     ap (λ o. o >>= (λ (parts : Header × List ℕ). sst_of range parts.1 >>= (λ entries. postings_of parts.0 entries))) t.header
-    ∙ ap (λ o. o >>= (λ entries. postings_of (record { documents = documents; count = count; packed = take (packed_length documents count) (drop 12 file) }) entries)) none
+    ∙ ap (λ o. o >>= (λ entries. postings_of (header_in documents count file) entries)) none
 
 index_part-by : (file : List ℕ) (documents count start : ℕ) → HasTable documents count start file → index_part_in file ≡ index_part_of (drop start file)
 index_part-by file documents count start t = ap (λ o. unwrap_or (option_map (λ (parts : Header × List ℕ). index_part_of parts.1) o) []) t.header
@@ -140,19 +144,10 @@ names-compressed None span start e error begins small is tells = tt
 names-compressed (Some file) span start e error begins small is tells =
     subst (NamesCompressed (Some file)) (sym is) (by_place file start span.end e small (subst (λ n. TellsPlace (slice_range file n span.end) e) (sym begins) tells))
 
-pub part-error-names : (contents : Option (List ℕ)) (e : IndexError) → IsPartError e → NamesCompressed contents e
-part-error-names None e error = tt
-part-error-names (Some file) Memory error = tt
-part-error-names (Some file) Read error = tt
-part-error-names (Some file) Corrupt error = tt
-part-error-names (Some file) (Compressed place) error = absurd error
-part-error-names (Some file) (Version version) error = tt
-part-error-names (Some file) NotYet error = tt
-
 -- ---- opening
 
 pub opens-found : (contents : Option (List ℕ)) (documents count start size s : ℕ) (slice : Span) (opened : Opened) → HasLength contents size → s ≡ size → slice.start ≡ start → slice.end ≡ s
-    → Told contents (HasTable documents count start) → OpensAt range contents slice (Ok opened)
+    → IfSome contents (HasTable documents count start) → OpensAt range contents slice (Ok opened)
     → OpensTold contents (Ok (record { documents = documents; count = count; dictionary = opened }))
 opens-found None documents count start size s slice opened long same begins ends told opens = tt
 opens-found (Some file) documents count start size s slice opened long same begins ends t opens =
@@ -189,7 +184,7 @@ refused file documents count start table tables.NotYet small is t opens =
     waiting-by file documents count start t ∙ sym (ap is_waiting same) ∙ opens
 
 pub opens-refused : (contents : Option (List ℕ)) (documents count start size s : ℕ) (slice : Span) (e : SstError) (error : IndexError) → HasLength contents size → s ≡ size → size < 2 ^ 64
-    → slice.start ≡ start → slice.end ≡ s → Told contents (HasTable documents count start) → OpensAt range contents slice (Err e) → error ≡ error_of_table start e → OpensTold contents (Err error)
+    → slice.start ≡ start → slice.end ≡ s → IfSome contents (HasTable documents count start) → OpensAt range contents slice (Err e) → error ≡ error_of_table start e → OpensTold contents (Err error)
 opens-refused None documents count start size s slice e error long same small begins ends told opens is = tt
 opens-refused (Some file) documents count start size s slice e error long same small begins ends t opens is =
     let at : OpensAt range (Some file) (record { start = start; end = length file }) (Err e) =
@@ -197,7 +192,7 @@ opens-refused (Some file) documents count start size s slice e error long same s
     subst (λ x. Opens file (Err x)) (sym is) (refused file documents count start (drop start file) e (omega (arith, long, small)) refl t at)
 
 pub fetches-table : (contents : Option (List ℕ)) (documents count start size s before now : ℕ) (slice : Span) → HasLength contents size → s ≡ size → slice.start ≡ start → slice.end ≡ s
-    → Told contents (HasTable documents count start) → FetchesIndex contents slice before now → Told contents (FetchesTable before now)
+    → IfSome contents (HasTable documents count start) → FetchesIndex contents slice before now → IfSome contents (λ file. now ≤ before + (20 + length (index_part_in file)))
 fetches-table None documents count start size s before now slice long same begins ends told fetches = tt
 fetches-table (Some file) documents count start size s before now slice long same begins ends t fetches =
     let table : slice_range file slice.start slice.end ≡ drop start file = ap (λ n. slice_range file n slice.end) begins ∙ slice-whole file start slice.end (long ∙ sym same ∙ sym ends) in
@@ -213,7 +208,7 @@ by_version T file (Compressed place) told = absurd told
 by_version T file (Version version) told = told
 by_version T file NotYet told = absurd told
 
-pub opens-version : (T : Type 0) (contents : Option (List ℕ)) (e : IndexError) → Told contents (ReadsVersion {T = T} (Err e)) → OpensTold contents (Err e)
+pub opens-version : (T : Type 0) (contents : Option (List ℕ)) (e : IndexError) → IfSome contents (ReadsVersion {T = T} (Err e)) → OpensTold contents (Err e)
 opens-version T None e told = tt
 opens-version T (Some file) e told = by_version T file e told
 
@@ -221,29 +216,21 @@ pub opens-unread : (contents : Option (List ℕ)) (e : IndexError) → IsReadErr
 opens-unread None e error = tt
 opens-unread (Some file) e error = ⊎_elim (λ memory. subst (λ x. Opens file (Err x)) (sym memory) tt) (λ read. subst (λ x. Opens file (Err x)) (sym read) tt) error
 
-pub opens-headless : {T : Type 0} (contents : Option (List ℕ)) (size : ℕ) (x : T) → HasLength contents size → size < 12 → Told contents (ReadsVersion (Ok x)) → OpensTold contents (Err Corrupt)
+pub opens-headless : {T : Type 0} (contents : Option (List ℕ)) (size : ℕ) (x : T) → HasLength contents size → size < 12 → IfSome contents (ReadsVersion (Ok x)) → OpensTold contents (Err Corrupt)
 opens-headless None size x long short told = tt
 opens-headless (Some file) size x long short version = damaged-none file version.no_other (header_at-short file (omega (arith, long, short)))
 
 pub opens-far : {T : Type 0} (contents : Option (List ℕ)) (size documents count : ℕ) (x : T) → HasLength contents size → 12 ≤ size → size < 12 + packed_length documents count
-    → Told contents (ReadsVersion (Ok x)) → Told contents (HasHead documents count) → OpensTold contents (Err Corrupt)
+    → IfSome contents (ReadsVersion (Ok x)) → IfSome contents (HasHead documents count) → OpensTold contents (Err Corrupt)
 opens-far None size documents count x long fits far told head = tt
 opens-far (Some file) size documents count x long fits far version head =
     damaged-none file version.no_other (header_at-far file documents count head.is_documents head.is_count (omega (arith, long, fits)) (omega (arith, long, far)))
 
 pub has-table : {T : Type 0} (contents : Option (List ℕ)) (size documents count start : ℕ) (x : T) → HasLength contents size → start ≡ 12 + packed_length documents count → start ≤ size
-    → Told contents (ReadsVersion (Ok x)) → Told contents (HasHead documents count) → Told contents (HasTable documents count start)
+    → IfSome contents (ReadsVersion (Ok x)) → IfSome contents (HasHead documents count) → IfSome contents (HasTable documents count start)
 has-table None size documents count start x long begins fits told head = tt
 has-table (Some file) size documents count start x long begins fits version head = record {
   version = version;
   header = header_at-found file documents count start head.is_documents head.is_count begins (omega (arith, long, fits));
   fits = omega (arith, long, fits);
 }
-
-pub fetches-early : (contents : Option (List ℕ)) (before now : ℕ) → now ≤ before + 32 → FetchesOpening contents before now
-fetches-early None before now few = tt
-fetches-early (Some file) before now few = omega (arith, few)
-
-pub fetches-opening : (contents : Option (List ℕ)) (before middle now : ℕ) → middle ≤ before + 32 → Told contents (FetchesTable middle now) → FetchesOpening contents before now
-fetches-opening None before middle now few told = tt
-fetches-opening (Some file) before middle now few fetches = omega (arith, few, fetches)

@@ -1,6 +1,6 @@
+pub mod Errors
 pub mod Opened
 pub mod Opening
 pub mod Steps
 pub mod Numbers
-pub mod Unpacking
 pub mod LookUp

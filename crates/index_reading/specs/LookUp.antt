@@ -1,15 +1,16 @@
 -- What a look-up of a key in an opened index answers.
 use Rattle.std.specs.Prelude.{◌≡◌, ◌⊎◌, ℕ, ◌+◌, ◌-◌, ◌*◌, ◌≤◌, List, [], length, ⊤, true, Option, Some, None, unwrap_or, Result, Ok, Err}
 use Rattle.owned_bytes.specs.Keys.{Key}
-use Rattle.owned_bytes.specs.Outside.{RisesAtMost}
+use Rattle.owned_bytes.specs.Outside.{FileState, ReadsFile}
 use Rattle.std.specs.declared.ops.Range.{Range}
-use Rattle.sstable_blocks.specs.Codec.{range}
+use Rattle.sstable_values.specs.Codec.{range}
 use Rattle.sstable_blocks.specs.Run.{Block}
 use Rattle.tantivy_bitpacker.specs.Packed.{bytes_for}
-use Rattle.tantivy_sstable.specs.Opened.{longest, blocks_told}
-use Rattle.tantivy_sstable.specs.Between.{value_at}
-use Rattle.tantivy_sstable.specs.Opening.{is_compressed_at}
-use Rattle.term_documents.specs.Postings.{Postings}
+use Rattle.sstable_format.specs.Table.{longest}
+use Rattle.tantivy_sstable.specs.Opened.{blocks_told}
+use Rattle.sstable_format.specs.Entries.{value_at}
+use Rattle.sstable_format.specs.Refused.{is_compressed_at}
+use Rattle.documents.specs.Postings.{Postings}
 use Rattle.index_file.specs.Header.{width_of, packed_length, numbers_in}
 use Rattle.index_reading.specs.Opened.{header_of, postings_told}
 use Rattle.index_reading.specs.Numbers.{GivesPart}
@@ -63,18 +64,28 @@ IsPartError _ = ⊥
 abbrev pub blocks_length : OpenIndex → ℕ
 blocks_length index = index.dictionary.blocks_range.end - index.dictionary.blocks_range.start
 
--- the bytes that the numbers of the key are packed in, and 28 for those before them in a group of eight
-abbrev pub numbers_length : OpenIndex → Postings → Key → ℕ
-numbers_length index postings key =
-    28 + bytes_for (length (unwrap_or (value_at key postings.entries) []) * width_of index.documents)
+-- the bytes that so many numbers are packed in, and 28 for those before them in a group of eight
+abbrev pub places_length : OpenIndex → ℕ → ℕ
+places_length index count = 28 + bytes_for (count * width_of index.documents)
 
--- A count rose by no more than the lengths of the blocks and of all packed numbers; or where the blocks and the postings are
--- told, of the longest block, the four zero bytes behind the blocks, and the numbers of the key.
-abbrev pub FetchesParts : OpenIndex → Option (List (Block (Range ℕ))) → Option Postings → Key → ℕ → ℕ → Type 0
-FetchesParts index (Some blocks) (Some postings) key before now = RisesAtMost before now (longest blocks + 4 + numbers_length index postings key)
-FetchesParts index _ _ key before now = RisesAtMost before now (blocks_length index + packed_length index.documents index.count)
+-- the same of the numbers of the key
+abbrev pub numbers_length : OpenIndex → Postings → Key → ℕ
+numbers_length index postings key = places_length index (length (unwrap_or (value_at key postings.entries) []))
+
+-- so many numbers were read, in at most one read within the packed numbers
+pub record ReadsNumbers (index : OpenIndex) (count : ℕ) (before now : FileState) (failure : Type 0) : Type 0 where
+  pub reads : ReadsFile before now failure 1 (packed_length index.documents index.count)
+  pub numbers : now.fetched ≤ before.fetched + places_length index count
+
+-- No more bytes were fetched than those of the blocks and of all packed numbers; or where the blocks and the postings are
+-- told, than those of the longest block, the four zero bytes behind the blocks, and those of the numbers of the key.
+abbrev pub FetchesParts : OpenIndex → Option (List (Block (Range ℕ))) → Option Postings → Key → FileState → FileState → Type 0
+FetchesParts index (Some blocks) (Some postings) key before now =
+    now.fetched ≤ before.fetched + (longest blocks + 4 + numbers_length index postings key)
+FetchesParts index _ _ key before now =
+    now.fetched ≤ before.fetched + (blocks_length index + packed_length index.documents index.count)
 
 -- the same by the contents, where they are told
-abbrev pub FetchesNumbers : OpenIndex → Option (List ℕ) → Key → ℕ → ℕ → Type 0
-FetchesNumbers index contents key before now =
-    FetchesParts index (blocks_told range index.dictionary contents) (postings_told index contents) key before now
+abbrev pub FetchesNumbers : OpenIndex → Key → FileState → FileState → Type 0
+FetchesNumbers index key before now =
+    FetchesParts index (blocks_told range index.dictionary before.contents) (postings_told index before.contents) key before now

@@ -1,9 +1,9 @@
 -- What an opened index has in its file.
 use Rattle.std.specs.Prelude.{◌≡◌, ℕ, ◌+◌, ◌<◌, ◌≤◌, List, All, take, drop, true, Option, option_and_then}
 use Rattle.owned_bytes.specs.Front.{◌>>=◌}
-use Rattle.sstable_blocks.specs.Codec.{range}
+use Rattle.sstable_values.specs.Codec.{range}
 use Rattle.tantivy_sstable.specs.Opened.{entries_in}
-use Rattle.term_documents.specs.Postings.{Postings}
+use Rattle.documents.specs.Postings.{Postings}
 use Rattle.index_file.specs.Header.{Header, packed_length}
 use Rattle.index_file.specs.IndexFile.{postings_of, is_increasing}
 use Rattle.index_reading.specs.declared.open.OpenIndex.{OpenIndex}

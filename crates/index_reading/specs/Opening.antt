@@ -2,10 +2,13 @@
 use Rattle.std.specs.Prelude.{◌≡◌, ℕ, ◌+◌, ◌≤◌, List, [], length, ⊤, true, false, Option, Some, None, unwrap_or, option_map, Result, Ok, Err}
 use Rattle.std.specs.declared.ops.Range.{Range}
 use Rattle.owned_bytes.specs.Front.{◌>>=◌}
-use Rattle.sstable_blocks.specs.Codec.{range}
+use Rattle.owned_bytes.specs.Outside.{FileState}
+use Rattle.sstable_values.specs.Codec.{range}
 use Rattle.sstable_blocks.specs.Run.{Block}
 use Rattle.tantivy_sstable.specs.Opened.{blocks_in}
-use Rattle.tantivy_sstable.specs.Opening.{table_blocks, version_of, is_known, is_compressed_at, index_part_of}
+use Rattle.sstable_format.specs.Table.{table_blocks, index_part_of}
+use Rattle.sstable_format.specs.Version.{version_of, is_known}
+use Rattle.sstable_format.specs.Refused.{is_compressed_at}
 use Rattle.index_file.specs.Header.{header_at}
 use Rattle.index_file.specs.IndexFile.{table_of}
 use Rattle.index_file.specs.Opening.{CanBeOpened, IsDamaged, is_waiting_file}
@@ -54,8 +57,8 @@ OpensTold (Some file) result = Opens file result
 abbrev pub index_part_in : List ℕ → List ℕ
 index_part_in file = unwrap_or (option_map (λ parts. index_part_of parts.1) (header_at file)) []
 
--- Where the contents are told, a count rose by no more than 52 and the length of the index part: two footers of 20 bytes, and
--- the header's 12.
-abbrev pub FetchesOpening : Option (List ℕ) → ℕ → ℕ → Type 0
-FetchesOpening None before now = ⊤
-FetchesOpening (Some file) before now = now ≤ before + (52 + length (index_part_in file))
+-- Where the contents are told, no more than 52 bytes and the length of the index part were fetched: two footers of 20 bytes,
+-- and the header's 12.
+abbrev pub FetchesOpening : FileState → FileState → Type 0
+FetchesOpening before now =
+    (file : List ℕ) → before.contents ≡ Some file → now.fetched ≤ before.fetched + (52 + length (index_part_in file))

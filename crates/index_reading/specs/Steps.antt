@@ -1,31 +1,12 @@
 -- What the steps of opening an index file answer.
-use Rattle.std.specs.Prelude.{◌≡◌, ◌⊎◌, ℕ, ◌+◌, ◌-◌, ◌^◌, ◌≤◌, min, List, length, take, drop, true, false, Option, Some, None, ⊤, Result, Ok, Err}
+use Rattle.std.specs.Prelude.{◌≡◌, ℕ, ◌+◌, ◌≤◌, List, length, take, drop, true, false, Some, ⊤, IfSome, Result, Ok, Err}
 use Rattle.std.specs.Int.{w32, w64, from_le_bytes}
-use Rattle.tantivy_sstable.specs.Opening.{has_known_version, has_unknown_version}
-use Rattle.tantivy_sstable.specs.declared.errors.SstError.{SstError}
-use Rattle.tantivy_sstable.specs.declared.errors.SstError.TheVariants as tables
-use Rattle.index_file.specs.Header.{header_at, packed_length}
+use Rattle.owned_bytes.specs.Outside.{FileState, LeavesFile}
+use Rattle.sstable_format.specs.Version.{has_known_version, has_unknown_version}
+use Rattle.index_file.specs.Header.{Header, header_at, packed_length}
 use Rattle.index_reading.specs.declared.errors.IndexError.{IndexError}
 use Rattle.index_reading.specs.declared.errors.IndexError.TheVariants.{Memory, Read, Corrupt, Compressed, Version, NotYet}
 use Rattle.index_reading.specs.Opening.{HasOtherVersion, index_part_in}
-
--- what a read of a file answers where it fails
-abbrev pub IsReadError : IndexError → Type 0
-IsReadError error = (error ≡ Memory) ⊎ (error ≡ Read)
-
--- the error of a table that begins at a place of the file; no place is past the greatest `u64`
-abbrev pub error_of_table : ℕ → SstError → IndexError
-error_of_table start tables.Memory = Memory
-error_of_table start tables.Read = Read
-error_of_table start tables.Corrupt = Corrupt
-error_of_table start (tables.Compressed place) = Compressed (min (place + start) (2 ^ 64 - 1))
-error_of_table start (tables.Version version) = Version version
-error_of_table start tables.NotYet = NotYet
-
--- a fact about the contents, where they are told
-abbrev pub Told : Option (List ℕ) → (List ℕ → Type 0) → Type 0
-Told None fact = ⊤
-Told (Some file) fact = fact file
 
 -- the file ends with a version that is known
 pub record HasKnownVersion (file : List ℕ) : Type 0 where
@@ -47,12 +28,19 @@ pub record HasHead (documents count : ℕ) (file : List ℕ) : Type 0 where
   pub is_documents : documents ≡ from_le_bytes w32 (take 4 file)
   pub is_count : count ≡ from_le_bytes w64 (take 8 (drop 4 file))
 
+-- the header of these numbers, with the packed numbers that the file has behind it
+abbrev pub header_in : ℕ → ℕ → List ℕ → Header
+header_in documents count file =
+    record { documents = documents; count = count; packed = take (packed_length documents count) (drop 12 file) }
+
 -- the file is of a known version, and its table begins at a place behind a header of these numbers
 pub record HasTable (documents count start : ℕ) (file : List ℕ) : Type 0 where
   pub version : HasKnownVersion file
-  pub header : header_at file ≡ Some (record { documents = documents; count = count; packed = take (packed_length documents count) (drop 12 file) }, drop start file)
+  pub header : header_at file ≡ Some (header_in documents count file, drop start file)
   pub fits : start ≤ length file
 
--- a count rose by no more than 20 and the length of the index part
-abbrev pub FetchesTable : ℕ → ℕ → List ℕ → Type 0
-FetchesTable before now file = now ≤ before + (20 + length (index_part_in file))
+-- A table was opened, in at most two reads, and where the contents are told of no more than 20 bytes and the index part.
+pub record ReadsTable (before now : FileState) (failure : Type 0) : Type 0 where
+  pub leaves : LeavesFile before now failure
+  pub reads : now.reads ≤ before.reads + 2
+  pub fetched : IfSome before.contents (λ file. now.fetched ≤ before.fetched + (20 + length (index_part_in file)))

@@ -1,4 +1,9 @@
 // Why an index file isn't read.
+ghost use Rattle.std.specs.Prelude.{◌≡◌};
+ghost use Rattle.index_reading.specs.Errors as spec;
+
+use owned_bytes::HandleError;
+use sstable_index::SstError;
 use std::alloc::AllocError;
 use thiserror::Error;
 
@@ -31,5 +36,33 @@ impl From<AllocError> for IndexError {
 
     fn from(_error: AllocError) -> Self {
         IndexError::Memory
+    }
+}
+
+impl From<HandleError> for IndexError {
+    ghost use Rattle.std.specs.Prelude.{◌≡◌};
+    ghost use Rattle.index_reading.specs.Errors.{error_of_handle};
+
+    ghost from_gives = { λ error e. e ≡ error_of_handle error };
+
+    fn from(error: HandleError) -> Self {
+        match error {
+            HandleError::Memory => IndexError::Memory,
+            HandleError::Failed => IndexError::Read,
+        }
+    }
+}
+
+// The error of a table that begins at `start` of the file.
+pub(crate) fn error_of_table(error: SstError, start: usize) -> IndexError
+    ensures { result ≡ spec.error_of_table start error }
+{
+    match error {
+        SstError::Memory => IndexError::Memory,
+        SstError::Read => IndexError::Read,
+        SstError::Corrupt => IndexError::Corrupt,
+        SstError::Compressed(place) => IndexError::Compressed(place.saturating_add(start as u64)),
+        SstError::Version(version) => IndexError::Version(version),
+        SstError::NotYet => IndexError::NotYet,
     }
 }

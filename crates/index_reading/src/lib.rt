@@ -7,7 +7,6 @@
 mod errors;
 mod lookup;
 mod open;
-mod parts;
 mod unpack;
 
 pub use errors::IndexError;

@@ -1,18 +1,18 @@
 // The numbers at a key.
 ghost use Rattle.std.specs.Prelude.{◌≡◌, ◌-◌, ◌+◌, ◌*◌, ◌/◌, ◌%◌, ◌^◌, ◌<◌, ◌≤◌, ◌↔◌, IsTrue, IfOk, IfErr, IfSome, Err};
-ghost use Rattle.owned_bytes.specs.Outside.{HasCause, RisesAtMost};
+ghost use Rattle.owned_bytes.specs.Outside.{LeavesFile};
 ghost use Rattle.tantivy_bitpacker.specs.Packed.{bytes_for};
-ghost use Rattle.index_file.specs.Header.{packed_length};
 ghost use Rattle.index_file.specs.Header as spec;
+ghost use Rattle.index_reading.specs.Errors.{ReadFailed};
 ghost use Rattle.index_reading.specs.Opened.{LiesIn, postings_told, AreNumbers};
-ghost use Rattle.index_reading.specs.Steps.{Told};
-ghost use Rattle.index_reading.specs.LookUp.{LooksUpTold, IsLookUpError, NamesCompressed, FetchesNumbers, GivesPlaces, IsPartError, ArePlaces};
+ghost use Rattle.index_reading.specs.LookUp.{LooksUpTold, IsLookUpError, NamesCompressed, FetchesNumbers, GivesPlaces, IsPartError, ArePlaces, ReadsNumbers};
 
-use crate::parts::{error_of, read_part};
+use crate::errors::error_of_table;
 use crate::unpack::numbers_in;
 use crate::{IndexError, OpenIndex};
+use common_wire::read_part;
 use index_file::{HEADER_LEN, width_of};
-use owned_bytes::{FileHandle, Ids};
+use owned_bytes::{FileHandle, Ids, file_len};
 use std::alloc::Global;
 use std::ops::Range;
 
@@ -25,21 +25,19 @@ impl OpenIndex {
         handle: &mut H,
         key: &[u8],
     ) -> Result<Option<Ids>, IndexError>
-        requires { LiesIn self.now (H.size handle.old) }
-        ensures found { LooksUpTold (postings_told self.now (H.contents handle.old)) key.now result }
+        requires { LiesIn self.now (H.state handle.old).size }
+        ensures found { LooksUpTold (postings_told self.now (H.state handle.old).contents) key.now result }
         ensures numbers { IfOk result (λ found. IfSome found (AreNumbers self.now.documents)) }
         ensures error { IfErr result IsLookUpError }
-        ensures compressed { IfErr result (NamesCompressed (H.contents handle.old)) }
-        ensures contents { H.contents handle.new ≡ H.contents handle.old }
-        ensures size { H.size handle.new ≡ H.size handle.old }
-        ensures cause { HasCause (H.faults handle.old) (H.faults handle.new) (result ≡ Err IndexError.Read) }
-        ensures reads { RisesAtMost (H.reads handle.old) (H.reads handle.new) 2 }
-        ensures fetched { FetchesNumbers self.now (H.contents handle.old) key.now (H.fetched handle.old) (H.fetched handle.new) }
+        ensures compressed { IfErr result (NamesCompressed (H.state handle.old).contents) }
+        ensures file { LeavesFile (H.state handle.old) (H.state handle.new) (result ≡ Err IndexError.Read) }
+        ensures reads { (H.state handle.new).reads ≤ (H.state handle.old).reads + 2 }
+        ensures fetched { FetchesNumbers self.now key.now (H.state handle.old) (H.state handle.new) }
     {
         let places = match self.dictionary.get(alloc, handle, key) {
             Ok(Some(places)) => places,
             Ok(None) => return Ok(None),
-            Err(e) => return Err(error_of(e, self.blocks_range().start)),
+            Err(e) => return Err(error_of_table(e, self.blocks_range().start)),
         };
         match self.numbers_of(alloc, handle, places.start, places.end) {
             Ok(numbers) => Ok(Some(numbers)),
@@ -64,35 +62,24 @@ impl OpenIndex {
         start: u64,
         end: u64,
     ) -> Result<Ids, IndexError>
-        requires { LiesIn self.now (H.size handle.old) }
-        ensures given { Told (H.contents handle.old) (GivesPlaces self.now start end result) }
+        requires { LiesIn self.now (H.state handle.old).size }
+        ensures given { IfSome (H.state handle.old).contents (GivesPlaces self.now start end result) }
         ensures numbers { IfOk result (AreNumbers self.now.documents) }
         ensures error { IfErr result IsPartError }
-        ensures contents { H.contents handle.new ≡ H.contents handle.old }
-        ensures size { H.size handle.new ≡ H.size handle.old }
-        ensures cause { HasCause (H.faults handle.old) (H.faults handle.new) (result ≡ Err IndexError.Read) }
-        ensures reads { RisesAtMost (H.reads handle.old) (H.reads handle.new) 1 }
-        ensures fetched { RisesAtMost (H.fetched handle.old) (H.fetched handle.new) (28 + bytes_for ((end - start) * spec.width_of self.now.documents)) }
-        ensures fetched_part { RisesAtMost (H.fetched handle.old) (H.fetched handle.new) (packed_length self.now.documents self.now.count) }
+        ensures reads { ReadsNumbers self.now (end - start) (H.state handle.old) (H.state handle.new) (ReadFailed result) }
     {
         if !are_places(start, end, self.count, self.documents) {
             return Err(IndexError::Corrupt);
         }
         let width = packed_width(self.documents);
-        let count = (end - start) as usize;
-        let range = packed_part(width, start, count, handle.len());
+        let count = (end - start) as u32;
+        let range = packed_part(width, start, count, file_len(handle));
         let part = match read_part(alloc, handle, range) {
             Ok(part) => part,
-            Err(e) => return Err(e),
+            Err(e) => return Err(IndexError::from(e)),
         };
-        numbers_in(
-            alloc,
-            width,
-            (start % 8) as usize,
-            count,
-            self.documents,
-            part.as_slice(),
-        )
+        let first = (start % 8) as u32;
+        numbers_in(alloc, width, first, count, self.documents, part.as_slice())
     }
 }
 
@@ -112,7 +99,7 @@ fn packed_width(documents: u32) -> u8
 }
 
 // Where so many numbers from the place `start` on are packed in a file of so many bytes, from a group of eight on.
-fn packed_part(width: u8, start: u64, count: usize, size: usize) -> Range<usize>
+fn packed_part(width: u8, start: u64, count: u32, size: usize) -> Range<usize>
     requires { 12 + bytes_for ((start + count) * width) ≤ size }
     ensures start { result.start ≡ 12 + start / 8 * width }
     ensures end { result.end ≡ 12 + start / 8 * width + bytes_for ((start % 8 + count) * width) }

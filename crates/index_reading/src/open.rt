@@ -1,21 +1,20 @@
 // Opening an index file.
-ghost use Rattle.std.specs.Prelude.{◌≡◌, ◌<◌, ◌≤◌, ◌+◌, ◌-◌, min, length, drop, IfOk, IfErr, IfSome, IfNone, Err};
-ghost use Rattle.std.specs.Int.{w32, from_le_bytes};
-ghost use Rattle.owned_bytes.specs.Outside.{HasCause, RisesAtMost};
+ghost use Rattle.std.specs.Prelude.{◌≡◌, ◌<◌, ◌≤◌, ◌+◌, length, IfOk, IfErr, IfSome, IfNone, Err};
+ghost use Rattle.owned_bytes.specs.Outside.{LeavesFile, ReadsFile};
 ghost use Rattle.index_file.specs.Header.{packed_length};
+ghost use Rattle.index_reading.specs.Errors.{IsReadError, ReadFailed};
 ghost use Rattle.index_reading.specs.Opened.{LiesIn};
 ghost use Rattle.index_reading.specs.Opening.{OpensTold, FetchesOpening};
-ghost use Rattle.index_reading.specs.Steps.{IsReadError, Told, ReadsVersion, HasHead, HasTable, FetchesTable};
+ghost use Rattle.index_reading.specs.Steps.{ReadsVersion, HasHead, HasTable, ReadsTable};
 
 use crate::IndexError;
-use crate::parts::{error_of, read_part};
-use common_wire::FileSlice;
+use crate::errors::error_of_table;
+use common_wire::{FileSlice, read_part};
 use index_file::{HEADER_LEN, width_of};
-use owned_bytes::{FileHandle, OwnedBytes};
+use owned_bytes::{FileHandle, OwnedBytes, file_len};
+use sstable_format::{FOOTER_LEN, VERSION_LEN, is_known, version_of};
 use std::alloc::Global;
 use tantivy_sstable::{Dictionary, RangeSSTable};
-
-const FOOTER_LEN: usize = 20;
 
 /// An index file that was opened.
 #[derive(Drop)]
@@ -32,18 +31,15 @@ impl OpenIndex {
     /// Opens the index that the whole file is. It reads the last 20 bytes of the file, or all of a shorter one, then the
     /// first 12, and then what opening the table reads.
     pub fn open<H: FileHandle>(alloc: Global, handle: &mut H) -> Result<OpenIndex, IndexError>
-        ensures opens { OpensTold (H.contents handle.old) result }
-        ensures lies { IfOk result (λ index. LiesIn index (H.size handle.old)) }
-        ensures short { H.size handle.old < 4 → result ≡ Err IndexError.Corrupt }
-        ensures contents { H.contents handle.new ≡ H.contents handle.old }
-        ensures size { H.size handle.new ≡ H.size handle.old }
-        ensures cause { HasCause (H.faults handle.old) (H.faults handle.new) (result ≡ Err IndexError.Read) }
-        ensures reads { RisesAtMost (H.reads handle.old) (H.reads handle.new) 4 }
-        ensures fetched { FetchesOpening (H.contents handle.old) (H.fetched handle.old) (H.fetched handle.new) }
-        ensures fetched_rise { H.fetched handle.old ≤ H.fetched handle.new }
+        ensures opens { OpensTold (H.state handle.old).contents result }
+        ensures lies { IfOk result (λ index. LiesIn index (H.state handle.old).size) }
+        ensures short { (H.state handle.old).size < 4 → result ≡ Err IndexError.Corrupt }
+        ensures file { LeavesFile (H.state handle.old) (H.state handle.new) (result ≡ Err IndexError.Read) }
+        ensures reads { (H.state handle.new).reads ≤ (H.state handle.old).reads + 4 }
+        ensures fetched { FetchesOpening (H.state handle.old) (H.state handle.new) }
     {
-        let size = handle.len();
-        if size < 4 {
+        let size = file_len(handle);
+        if size < VERSION_LEN {
             return Err(IndexError::Corrupt);
         }
         match check_version(alloc, handle) {
@@ -71,32 +67,19 @@ struct Head {
     count: u64,
 }
 
-// The number in the last four bytes.
-fn last_u32(bytes: &[u8]) -> u32
-    requires { 4 ≤ length bytes.now }
-    ensures { result ≡ from_le_bytes w32 (drop (length bytes.now - 4) bytes.now) }
-{
-    let (_, last) = bytes.split_at(bytes.len() - 4);
-    u32::from_le_bytes([last[0], last[1], last[2], last[3]])
-}
-
 // Reads the end of the file, and answers `Ok` where its version is known.
 fn check_version<H: FileHandle>(alloc: Global, handle: &mut H) -> Result<(), IndexError>
-    requires { 4 ≤ H.size handle.old }
-    ensures told { Told (H.contents handle.old) (ReadsVersion result) }
-    ensures contents { H.contents handle.new ≡ H.contents handle.old }
-    ensures size { H.size handle.new ≡ H.size handle.old }
-    ensures cause { HasCause (H.faults handle.old) (H.faults handle.new) (result ≡ Err IndexError.Read) }
-    ensures reads { RisesAtMost (H.reads handle.old) (H.reads handle.new) 1 }
-    ensures fetched { RisesAtMost (H.fetched handle.old) (H.fetched handle.new) 20 }
+    requires { VERSION_LEN ≤ (H.state handle.old).size }
+    ensures told { IfSome (H.state handle.old).contents (ReadsVersion result) }
+    ensures reads { ReadsFile (H.state handle.old) (H.state handle.new) (ReadFailed result) 1 FOOTER_LEN }
 {
-    let size = handle.len();
+    let size = file_len(handle);
     let ending = match read_part(alloc, handle, size - size.min(FOOTER_LEN)..size) {
         Ok(ending) => ending,
-        Err(e) => return Err(e),
+        Err(e) => return Err(IndexError::from(e)),
     };
-    let version = last_u32(ending.as_slice());
-    if version != 2 && version != 3 {
+    let version = version_of(ending.as_slice());
+    if !is_known(version) {
         return Err(IndexError::Version(version));
     }
     Ok(())
@@ -104,18 +87,14 @@ fn check_version<H: FileHandle>(alloc: Global, handle: &mut H) -> Result<(), Ind
 
 // Reads the first bytes of the file.
 fn read_head<H: FileHandle>(alloc: Global, handle: &mut H) -> Result<Head, IndexError>
-    requires { HEADER_LEN ≤ H.size handle.old }
-    ensures told { IfOk result (λ head. Told (H.contents handle.old) (HasHead head.documents head.count)) }
+    requires { HEADER_LEN ≤ (H.state handle.old).size }
+    ensures told { IfOk result (λ head. IfSome (H.state handle.old).contents (HasHead head.documents head.count)) }
     ensures error { IfErr result IsReadError }
-    ensures contents { H.contents handle.new ≡ H.contents handle.old }
-    ensures size { H.size handle.new ≡ H.size handle.old }
-    ensures cause { HasCause (H.faults handle.old) (H.faults handle.new) (result ≡ Err IndexError.Read) }
-    ensures reads { RisesAtMost (H.reads handle.old) (H.reads handle.new) 1 }
-    ensures fetched { RisesAtMost (H.fetched handle.old) (H.fetched handle.new) 12 }
+    ensures reads { ReadsFile (H.state handle.old) (H.state handle.new) (ReadFailed result) 1 HEADER_LEN }
 {
     match read_part(alloc, handle, 0..HEADER_LEN) {
         Ok(front) => Ok(head_of(front)),
-        Err(e) => Err(e),
+        Err(e) => Err(IndexError::from(e)),
     }
 }
 
@@ -161,24 +140,19 @@ fn open_table<H: FileHandle>(
     start: usize,
 ) -> Result<OpenIndex, IndexError>
     requires begins { start ≡ 12 + packed_length head.documents head.count }
-    requires fits { start ≤ H.size handle.old }
-    requires told { Told (H.contents handle.old) (HasTable head.documents head.count start) }
-    ensures opens { OpensTold (H.contents handle.old) result }
-    ensures lies { IfOk result (λ index. LiesIn index (H.size handle.old)) }
-    ensures contents { H.contents handle.new ≡ H.contents handle.old }
-    ensures size { H.size handle.new ≡ H.size handle.old }
-    ensures cause { HasCause (H.faults handle.old) (H.faults handle.new) (result ≡ Err IndexError.Read) }
-    ensures reads { RisesAtMost (H.reads handle.old) (H.reads handle.new) 2 }
-    ensures fetched { Told (H.contents handle.old) (FetchesTable (H.fetched handle.old) (H.fetched handle.new)) }
-    ensures fetched_rise { H.fetched handle.old ≤ H.fetched handle.new }
+    requires fits { start ≤ (H.state handle.old).size }
+    requires told { IfSome (H.state handle.old).contents (HasTable head.documents head.count start) }
+    ensures opens { OpensTold (H.state handle.old).contents result }
+    ensures lies { IfOk result (λ index. LiesIn index (H.state handle.old).size) }
+    ensures reads { ReadsTable (H.state handle.old) (H.state handle.new) (ReadFailed result) }
 {
-    let size = handle.len();
+    let size = file_len(handle);
     match Dictionary::<RangeSSTable>::open(alloc, handle, part_from(start, size)) {
         Ok(dictionary) => Ok(OpenIndex {
             documents: head.documents,
             count: head.count,
             dictionary,
         }),
-        Err(e) => Err(error_of(e, start)),
+        Err(e) => Err(error_of_table(e, start)),
     }
 }

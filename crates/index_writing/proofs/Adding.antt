@@ -1,8 +1,7 @@
 -- What one pair more does to a map of keys with numbers.
-use Rattle.std.proofs.Common.{◌≡◌, ℕ, ◌+◌, ◌-◌, ◌<◌, Bool, true, false, cond, ◌||◌, List, [], ◌∷◌, ◌++◌, length, Option, Some, None, refl, sym, ap, subst, ◌∙◌, arith, BTreeMap, All, eqb, inl, inr, take, get_or, length-take-le}
+use Rattle.std.proofs.Common.{◌≡◌, ℕ, ◌+◌, ◌-◌, ◌<◌, Bool, true, false, cond, ◌||◌, List, [], ◌∷◌, ◌++◌, length, Option, Some, None, refl, sym, ap, subst, ◌∙◌, arith, BTreeMap, All, eqb, inl, inr, take, get_or}
 use Rattle.std.specs.Prelude.{unwrap_or, slice_get, bytes_eq}
-use Rattle.std.specs.BTreeMap.{is_at}
-use Rattle.std.specs.Map.{update, lookup}
+use Rattle.std.specs.Map.{update}
 use Rattle.std.specs.Ordering.{nat_cmp, eq_by_cmp, is_eq}
 use Rattle.std.specs.declared.cmp.Ordering.{Ordering}
 use Rattle.std.specs.declared.cmp.Ordering.TheVariants.{Less, Equal, Greater}
@@ -17,9 +16,9 @@ use Rattle.std.proofs.lemmas.Map.{update_same, update_other}
 use Rattle.std.proofs.lemmas.Map.Text.{is_eq-slice_cmp}
 use Rattle.std.proofs.lemmas.Map.Lookups.{exact_bytes}
 use Rattle.owned_bytes.specs.Keys.{Key, is_same, is_equal}
-use Rattle.term_documents.specs.declared.documents.Pair.{Pair}
-use Rattle.term_documents.specs.declared.documents.Doc.{Doc}
-use Rattle.term_documents.specs.Postings.{key_of, numbers_of}
+use Rattle.documents.specs.declared.documents.Pair.{Pair}
+use Rattle.documents.specs.declared.documents.Doc.{Doc}
+use Rattle.documents.specs.Postings.{key_of, numbers_of}
 use Rattle.index_writing.specs.Gathering.{listed, with_number, numbers_at, Tells}
 use Rattle.index_writing.proofs.Numbering.{has, numbers-with, numbers-without, numbers-below}
 
@@ -146,14 +145,3 @@ add-pair-at old new docs pairs i pair key number within at is long tells updates
     subst (λ n. (q : List ℕ) → numbers_at new q ≡ update (eq_by_cmp (slice_cmp nat_cmp)) (numbers_at old) (key_of pair) (Some (with_number n (unwrap_or (numbers_at old (key_of pair)) []))) q) (sym long)
     (subst (λ k. (q : List ℕ) → numbers_at new q ≡ update (eq_by_cmp (slice_cmp nat_cmp)) (numbers_at old) k (Some (with_number number (unwrap_or (numbers_at old k) []))) q) is updates) in
     subst (λ ps. Tells new (docs ++ record { pairs = ps } ∷ [])) (sym more) (add-pair old new docs (take i pairs) pair tells same)
-
--- the same, in a loop over documents
-pub add-doc-at : (old new : BTreeMap Key (List ℕ)) (docs : List Doc) (i : ℕ) (doc : Doc) (number : ℕ) → i < length docs → doc ≡ get_or docs i doc → number ≡ i
-    → Tells old (take i docs) → ((before : List Doc) → length before ≡ number → Tells old before → Tells new (before ++ doc ∷ [])) → Tells new (take (i + 1) docs)
-add-doc-at old new docs i doc number within at same tells adds =
-    let more : take (i + 1) docs ≡ take i docs ++ doc ∷ [] = take_more docs i doc within ∙ ap (λ d. take i docs ++ d ∷ []) (sym at) in
-    subst (Tells new) (sym more) (adds (take i docs) (omega (arith, same, length-take-le i docs, within)) tells)
-
--- a map without entries
-pub tells-nothing : (gathered : BTreeMap Key (List ℕ)) → gathered.entries ≡ [] → Tells gathered []
-tells-nothing gathered empty q = ap (λ es. lookup (is_at (slice_cmp nat_cmp q)) es) empty

@@ -1,7 +1,8 @@
 -- What holds of the entries that valid documents gather to.
 use Rattle.std.proofs.Common.{◌≡◌, ℕ, zero, suc, ◌+◌, ◌*◌, ◌^◌, ◌<◌, ◌≤◌, Bool, true, false, not, ◌||◌, List, [], ◌∷◌, ◌++◌, length, Some, None, All, refl, sym, ap, subst, ◌∙◌, arith, eqb, rules, length-append}
-use Rattle.std.specs.Prelude.{map, sum_by, nat_lt, cond}
-use Rattle.std.specs.List.{flat_map, list_all, list_any, AllByRecursion}
+use Rattle.std.specs.Prelude.{map, filter, sum_by, nat_lt, cond}
+use Rattle.std.proofs.lemmas.List.{length-map}
+use Rattle.std.specs.List.{enumerate_from, flat_map, list_all, list_any, AllByRecursion}
 use Rattle.std.specs.List.Sorted.{IsStrictlySortedBy}
 use Rattle.std.proofs.lemmas.Bool.{and_from, lt-ltb, le-leb, ne_eqb, eq-eqb}
 use Rattle.std.proofs.lemmas.List.Elements.{All-head, All-tail, All-append}
@@ -9,12 +10,12 @@ use Rattle.std.proofs.lemmas.List.Sums.{sum_by-append, sum_by-cons, list_all-fro
 use Rattle.owned_bytes.specs.Front.{◌>>=◌}
 use Rattle.owned_bytes.specs.Keys.{Key, is_same, is_below, is_less}
 unfoldable use Rattle.owned_bytes.specs.Keys.{is_rising, with_key, key_set}
-use Rattle.tantivy_sstable.specs.Laws.{keys_size}
-use Rattle.term_documents.specs.declared.documents.Pair.{Pair}
-use Rattle.term_documents.specs.declared.documents.Doc.{Doc}
-use Rattle.term_documents.specs.Documents.{IsField, IsValidPair, AreValidDocuments, is_field, is_short, pair_size, documents_size}
-use Rattle.term_documents.specs.Postings as postings
-unfoldable use Rattle.term_documents.specs.Postings.{gather}
+use Rattle.sstable_tables.specs.Laws.{keys_size}
+use Rattle.documents.specs.declared.documents.Pair.{Pair}
+use Rattle.documents.specs.declared.documents.Doc.{Doc}
+use Rattle.documents.specs.Documents.{IsField, IsValidPair, AreValidDocuments, is_field, is_short, pair_size, documents_size}
+use Rattle.documents.specs.Postings as postings
+unfoldable use Rattle.documents.specs.Postings.{gather}
 use Rattle.index_file.specs.IndexFile.{is_pair, is_key, is_posting}
 unfoldable use Rattle.index_file.specs.IndexFile.{parted, adjoin}
 use Rattle.index_writing.specs.Gathering.{listed}
@@ -218,6 +219,36 @@ gathered-small docs small =
     let all = sum-docs docs in
     omega (arith, whole, kept, all, small)
 
+-- ---- how many numbers there are
+
+chosen-few : (test : Doc → Bool) (start : ℕ) (docs : List Doc)
+    → length (map (λ (numbered : ℕ × Doc). numbered.0) (filter (λ (numbered : ℕ × Doc). test numbered.1) (enumerate_from start docs))) ≤ length docs
+chosen-few test start [] = omega arith
+chosen-few test start (doc ∷ docs) =
+    let rest = chosen-few test (start + 1) docs in
+    let others = filter (λ (numbered : ℕ × Doc). test numbered.1) (enumerate_from (start + 1) docs) in
+    elim (test doc) as (λ b. length (map (λ (numbered : ℕ × Doc). numbered.0) (cond b ((start, doc) ∷ others) others)) ≤ length (doc ∷ docs)) [
+      | true ↦ omega (arith, rest)
+      | false ↦ omega (arith, rest)
+    ]
+
+few-paired : (f : Key → List ℕ) (keys : List Key) → ((key : Key) → length (f key) < 2 ^ 32) → length (numbers_of_all (paired f keys)) ≤ 2 ^ 32 * length keys
+few-paired f [] each = omega arith
+few-paired f (key ∷ keys) each = omega (arith, few-paired f keys each, each key, length-append (f key) (numbers_of_all (paired f keys)))
+
+length-ranged : (start : ℕ) (ps : List (Key × List ℕ)) → length (ranged start ps) ≡ length ps
+unfolding ranged
+length-ranged start [] = refl
+length-ranged start (p ∷ ps) = ap suc (length-ranged (start + length p.1) ps)
+
+gathered-few : (docs : List Doc) → length docs < 2 ^ 32 → documents_size docs ≤ 900000 * 4096 → length (numbers_of_all (gather docs).entries) < 2 ^ 64
+unfolding gather
+gathered-few docs few small =
+    let keys = key_set (keys_in docs) in
+    let numbers : Key → List ℕ = λ key. postings.numbers_of key docs in
+    let all = few-paired numbers keys (λ key. let most = chosen-few (λ doc. has key doc.pairs) 0 docs in omega (arith, most, few)) in
+    omega (arith, all, gathered-small docs small, length-ranged 0 (paired numbers keys), length-map {B = Key × List ℕ} keys (λ key. (key, numbers key)))
+
 -- ---- the same of copies
 
 pub rising-at : (docs : List Doc) (ps : List (Key × List ℕ)) → ps ≡ (gather docs).entries → is_rising (map (λ entry. entry.0) ps) ≡ true
@@ -226,5 +257,8 @@ rising-at docs ps is = subst (λ ps. is_rising (map (λ (entry : Key × List ℕ
 pub small-at : (docs : List Doc) (ps : List (Key × List ℕ)) → documents_size docs ≤ 900000 * 4096 → ps ≡ (gather docs).entries → keys_size (ranged 0 ps) + 31 * length (ranged 0 ps) + 21 < 2 ^ 32
 small-at docs ps small is = subst (λ ps. keys_size (ranged 0 ps) + 31 * length (ranged 0 ps) + 21 < 2 ^ 32) (sym is) (gathered-small docs small)
 
-pub fit-at : (docs : List Doc) (ps : List (Key × List ℕ)) (numbers : List ℕ) (bound : ℕ) → length docs ≤ bound → ps ≡ (gather docs).entries → numbers ≡ numbers_of_all ps → All (λ n. n < bound) numbers
-fit-at docs ps numbers bound few is all = subst (All (λ n. n < bound)) (sym (all ∙ ap numbers_of_all is)) (gathered-fit docs bound few)
+pub fit-at : (docs : List Doc) (ps : List (Key × List ℕ)) (bound : ℕ) → length docs ≤ bound → ps ≡ (gather docs).entries → All (λ n. n < bound) (numbers_of_all ps)
+fit-at docs ps bound few is = subst (λ ps. All (λ n. n < bound) (numbers_of_all ps)) (sym is) (gathered-fit docs bound few)
+
+pub few-at : (docs : List Doc) (ps : List (Key × List ℕ)) → length docs < 2 ^ 32 → documents_size docs ≤ 900000 * 4096 → ps ≡ (gather docs).entries → length (numbers_of_all ps) < 2 ^ 64
+few-at docs ps few small is = subst (λ ps. length (numbers_of_all ps) < 2 ^ 64) (sym is) (gathered-few docs few small)

@@ -12,14 +12,15 @@ use Rattle.owned_bytes.specs.Keys.{Key}
 use Rattle.owned_bytes.proofs.Pieces.{bytes_at-again, bind_some, provided-true}
 use Rattle.tantivy_bitpacker.specs.Packed.{packed, unpacked, FitWidth}
 use Rattle.tantivy_bitpacker.proofs.Packing.{unpacked-packed, length-packed}
-use Rattle.sstable_blocks.specs.Codec.{range}
-use Rattle.tantivy_sstable.specs.Index.{at_end}
-use Rattle.tantivy_sstable.specs.Table.{sst_of}
-use Rattle.tantivy_sstable.specs.Opening.{version_of, is_waiting}
-use Rattle.term_documents.specs.declared.documents.Doc.{Doc}
-use Rattle.term_documents.specs.Documents.{AreValidDocuments}
-use Rattle.term_documents.specs.Postings.{Postings}
-unfoldable use Rattle.term_documents.specs.Postings.{gather}
+use Rattle.sstable_values.specs.Codec.{range}
+use Rattle.sstable_format.specs.Index.{at_end}
+use Rattle.sstable_format.specs.Table.{sst_of}
+use Rattle.sstable_format.specs.Version.{version_of}
+use Rattle.sstable_format.specs.Refused.{is_waiting}
+use Rattle.documents.specs.declared.documents.Doc.{Doc}
+use Rattle.documents.specs.Documents.{AreValidDocuments}
+use Rattle.documents.specs.Postings.{Postings}
+unfoldable use Rattle.documents.specs.Postings.{gather}
 use Rattle.index_file.specs.Header.{Header, width_of, packed_length, header_at, numbers_in}
 use Rattle.index_file.specs.IndexFile.{is_posting, with_numbers, postings_of, adjoin}
 unfoldable use Rattle.index_file.specs.IndexFile.{table_of}
@@ -164,20 +165,18 @@ is-index docs table valid few small told version ready =
       ready = ap (λ o. is_some (o >>= (λ (parts : Header × List ℕ). provided (is_waiting parts.1)))) read ∙ ap (λ b. is_some (provided b)) ready;
     }
 
-pub made-index : {E : Type 0} (r : Result (List ℕ) E) (docs : List Doc) (ps first last : List (Key × List ℕ)) (numbers again s0 s1 s2 : List ℕ) (documents count width : ℕ)
-    → AreValidDocuments docs → ps ≡ (gather docs).entries → first ≡ ps → last ≡ ps → numbers ≡ numbers_of_all first → again ≡ numbers → documents ≡ length docs → count ≡ length numbers → count < 2 ^ 64
-    → width ≡ width_of documents → documents ≤ 2 ^ width → s0 ≡ [] → s1 ≡ s0 ++ header_bytes documents count → s2 ≡ s1 ++ packed width again
+pub made-index : {E : Type 0} (r : Result (List ℕ) E) (docs : List Doc) (counted first last : List (Key × List ℕ)) (s0 s1 s2 : List ℕ) (documents count width : ℕ)
+    → AreValidDocuments docs → length (numbers_of_all (gather docs).entries) < 2 ^ 64 → counted ≡ (gather docs).entries → first ≡ (gather docs).entries → last ≡ (gather docs).entries → documents ≡ length docs
+    → count ≡ length (numbers_of_all counted) → width ≡ width_of documents → documents ≤ 2 ^ width → s0 ≡ [] → s1 ≡ s0 ++ header_bytes documents count → s2 ≡ s1 ++ packed width (numbers_of_all first)
     → IfOk r (λ new. GainsTable (ranged 0 last) s2 new) → IfOk r (λ file. IsReadyIndex docs file)
-made-index (Err e) docs ps first last numbers again s0 s1 s2 documents count width valid a b c d f g h small i few j k l gains = tt
-made-index (Ok new) docs ps first last numbers again s0 s1 s2 documents count width valid a b c d f g h small i few j k l gains =
-    let entries : last ≡ (gather docs).entries = c ∙ a in
-    let all : numbers ≡ numbers_of_all (gather docs).entries = d ∙ ap numbers_of_all (b ∙ a) in
-    let size : count ≡ length (numbers_of_all (gather docs).entries) = h ∙ ap length all in
+made-index (Err e) docs counted first last s0 s1 s2 documents count width valid small a b c g h i few j k l gains = tt
+made-index (Ok new) docs counted first last s0 s1 s2 documents count width valid small a b c g h i few j k l gains =
+    let size : count ≡ length (numbers_of_all (gather docs).entries) = h ∙ ap (λ ps. length (numbers_of_all ps)) a in
     let wide : width ≡ width_of (length docs) = i ∙ ap width_of g in
     let head : s1 ≡ header_bytes (length docs) (length (numbers_of_all (gather docs).entries)) = k ∙ ap (λ s. s ++ header_bytes documents count) j ∙ ap (λ n. header_bytes n count) g ∙ ap (header_bytes (length docs)) size in
     let body : s2 ≡ header_bytes (length docs) (length (numbers_of_all (gather docs).entries)) ++ packed (width_of (length docs)) (numbers_of_all (gather docs).entries) =
-    l ∙ ap (λ s. s ++ packed width again) head ∙ ap (λ w. header_bytes (length docs) (length (numbers_of_all (gather docs).entries)) ++ packed w again) wide
-    ∙ ap (λ ns. header_bytes (length docs) (length (numbers_of_all (gather docs).entries)) ++ packed (width_of (length docs)) ns) (f ∙ all) in
+    l ∙ ap (λ s. s ++ packed width (numbers_of_all first)) head ∙ ap (λ w. header_bytes (length docs) (length (numbers_of_all (gather docs).entries)) ++ packed w (numbers_of_all first)) wide
+    ∙ ap (λ ps. header_bytes (length docs) (length (numbers_of_all (gather docs).entries)) ++ packed (width_of (length docs)) (numbers_of_all ps)) b in
     subst (IsReadyIndex docs) (sym (gains.appended ∙ ap (λ s. s ++ gains.table) body))
-    (is-index docs gains.table valid (subst (λ n. n ≤ 2 ^ width_of (length docs)) g (subst (λ w. documents ≤ 2 ^ w) wide few)) (subst (λ n. n < 2 ^ 64) size small)
-    (gains.told ∙ ap (λ ps. Some (ranged 0 ps)) entries) gains.version gains.ready)
+    (is-index docs gains.table valid (subst (λ n. n ≤ 2 ^ width_of (length docs)) g (subst (λ w. documents ≤ 2 ^ w) wide few)) small
+    (gains.told ∙ ap (λ ps. Some (ranged 0 ps)) c) gains.version gains.ready)

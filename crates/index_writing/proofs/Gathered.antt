@@ -18,10 +18,10 @@ use Rattle.std.proofs.lemmas.List.Folds.{list_any-append}
 use Rattle.std.proofs.lemmas.Map.Lookups.{exact_bytes}
 use Rattle.owned_bytes.specs.Keys.{Key, is_same, is_below, is_less, is_equal}
 unfoldable use Rattle.owned_bytes.specs.Keys.{with_key, key_set}
-use Rattle.term_documents.specs.declared.documents.Pair.{Pair}
-use Rattle.term_documents.specs.declared.documents.Doc.{Doc}
-use Rattle.term_documents.specs.Postings as postings
-unfoldable use Rattle.term_documents.specs.Postings.{gather}
+use Rattle.documents.specs.declared.documents.Pair.{Pair}
+use Rattle.documents.specs.declared.documents.Doc.{Doc}
+use Rattle.documents.specs.Postings as postings
+unfoldable use Rattle.documents.specs.Postings.{gather}
 use Rattle.index_writing.specs.Gathering.{listed, Tells}
 use Rattle.index_writing.proofs.Numbering.{has}
 

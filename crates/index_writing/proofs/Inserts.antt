@@ -1,7 +1,7 @@
 -- Why a writer of ranges takes every entry that may come next, and finishes every block that is small enough.
-use Rattle.std.proofs.Common.{◌≡◌, ℕ, suc, ◌+◌, ◌<◌, ◌≤◌, Bool, true, false, List, [], ◌∷◌, ◌++◌, length, Option, Some, Result, Ok, Err, refl, sym, ap, subst, ◌∙◌, arith, take, drop, get_or, drop-cons, append-nil, length-append}
-use Rattle.std.specs.Prelude.{OnOk, IsOk, IfOk, map}
-use Rattle.std.proofs.lemmas.Bool.{and_parts, eq-eqb}
+use Rattle.std.proofs.Common.{◌≡◌, ℕ, suc, ◌+◌, ◌<◌, ◌≤◌, true, List, [], ◌∷◌, ◌++◌, length, Option, Some, Result, Ok, Err, refl, sym, ap, subst, ◌∙◌, arith, take, drop, get_or, drop-cons, append-nil, length-append}
+use Rattle.std.specs.Prelude.{◌*◌, ◌^◌, OnOk, IsOk, IfOk, IfSome, map, option_map}
+use Rattle.std.proofs.lemmas.Bool.{and_parts, eq-eqb, false≢true}
 use Rattle.std.proofs.lemmas.Grind.{flat_map-append}
 use Rattle.std.proofs.lemmas.List.{take_more, take-append-drop}
 use Rattle.std.proofs.lemmas.List.Folds.{length-flat_map-take}
@@ -10,56 +10,47 @@ use Rattle.owned_bytes.specs.Keys.{Key, is_below}
 unfoldable use Rattle.owned_bytes.specs.Keys.{is_rising}
 use Rattle.owned_bytes.specs.Outside.{HasCause}
 use Rattle.owned_bytes.proofs.InTurn.{never_fails}
-use Rattle.sstable_blocks.specs.Codec.{range}
-use Rattle.sstable_blocks.specs.Range.{ends_at, may_adjoin}
-use Rattle.sstable_blocks.specs.Run.{last_key, may_follow}
-use Rattle.tantivy_sstable.specs.Laws.{values_in}
-use Rattle.tantivy_sstable.specs.Making.{TableState, HasInserted, RefusesEntry, StopsTable, AppendsTable}
-use Rattle.tantivy_sstable.specs.declared.errors.SstWriteError.{SstWriteError}
-use Rattle.tantivy_sstable.specs.declared.errors.SstWriteError.TheVariants.{Memory, Write, Unsorted, ValueRefused, BlockTooLong, Spent}
-use Rattle.tantivy_sstable.proofs.RangeTables.{short-fit, adjoining-taken}
-use Rattle.index_writing.specs.Emitting.{numbers_of_all, CanInsert, CanFinish, GainsTable}
+use Rattle.sstable_values.specs.Codec.{range}
+use Rattle.sstable_values.specs.Range.{ends_at}
+use Rattle.sstable_blocks.specs.Run.{last_key, entries_of}
+use Rattle.sstable_format.specs.Table.{sst_of}
+use Rattle.sstable_tables.specs.Laws.{HasGathered, keys_size, values_in}
+use Rattle.sstable_tables.specs.Making.{Making, IsTaken, Adds, Refuses, IsTooLong, StopsTable, AppendsTable, inserted, may_come}
+use Rattle.sstable_tables.proofs.Gathered.{gathered-more}
+use Rattle.sstable_tables.specs.declared.errors.SstWriteError.{SstWriteError}
+use Rattle.sstable_tables.specs.declared.errors.SstWriteError.TheVariants.{Memory, Write, Unsorted, ValueRefused, BlockTooLong, Spent}
+use Rattle.sstable_tables.proofs.RangeTables.{short-fit, adjoining-taken}
+use Rattle.index_writing.specs.Emitting.{numbers_of_all, GainsTable}
 unfoldable use Rattle.index_writing.specs.Emitting.{ranged}
 
 pub on-ok : {T E : Type 0} (r : Result T E) (P : Type 0) → OnOk r P → IsOk r → P
 on-ok (Ok x) P p is = p
 on-ok (Err e) P p is = absurd cc
 
-pub not-refused : (state : TableState (Range ℕ)) (key : Key) (places : Range ℕ) (taken : Bool) (e : SstWriteError)
-    → CanInsert state key places → may_adjoin state.block.values places ≡ taken → RefusesEntry state key places taken e → (e ≡ Memory → ⊥) → ⊥
-not-refused state key places taken Memory can same refuses other = other refl
-not-refused state key places taken Write can same refuses other = refuses
-not-refused state key places taken Unsorted can same refuses other =
-    let no : may_follow (last_key can.entries) ((key, places) ∷ []) ≡ false = refuses can.start can.entries can.inserted in
-    let yes = can.follows in
-    absurd cc
-not-refused state key places taken ValueRefused can same refuses other =
-    let yes : may_adjoin state.block.values places ≡ true = adjoining-taken state can.start can.entries places can.inserted can.ordered can.adjoins in
-    let no : taken ≡ false = refuses.1 in
-    absurd cc
-not-refused state key places taken BlockTooLong can same refuses other = refuses
-not-refused state key places taken Spent can same refuses other = refuses
+pub not-refused : {W : Type 0} (w : Making W (Range ℕ)) (key : Key) (places : Range ℕ) (e : SstWriteError) → IsTaken range w key places → Refuses range w key places e → (e ≡ Memory → ⊥) → ⊥
+not-refused w key places Memory taken refuses other = other refl
+not-refused w key places Write taken refuses other = refuses
+not-refused w key places Unsorted taken refuses other = absurd (false≢true (sym refuses ∙ taken.after))
+not-refused w key places ValueRefused taken refuses other = absurd (false≢true (sym refuses.1 ∙ taken.accepted))
+not-refused w key places BlockTooLong taken refuses other = refuses
+not-refused w key places Spent taken refuses other = refuses
 
 -- the same of a copy of the key
-pub not-refused-at : (state : TableState (Range ℕ)) (key copy : Key) (places : Range ℕ) (e : SstWriteError)
-    → copy ≡ key → CanInsert state key places → RefusesEntry state copy places (may_adjoin state.block.values places) e → (e ≡ Memory → ⊥) → ⊥
-not-refused-at state key copy places e same can refuses other =
-    not-refused state key places (may_adjoin state.block.values places) e can refl (subst (λ k. RefusesEntry state k places (may_adjoin state.block.values places) e) same refuses) other
+pub not-refused-at : {W : Type 0} (w : Making W (Range ℕ)) (key copy : Key) (places : Range ℕ) (e : SstWriteError)
+    → copy ≡ key → IsTaken range w key places → Refuses range w copy places e → (e ≡ Memory → ⊥) → ⊥
+not-refused-at w key copy places e same taken refuses other = not-refused w key places e taken (subst (λ k. Refuses range w k places e) same refuses) other
 
-pub not-stopped : (state : TableState (Range ℕ)) (new : Option (List ℕ)) (e : SstWriteError) (P : Type 0) → CanFinish state
-    → ((start : Option (List ℕ)) (entries : List (Key × Range ℕ)) → HasInserted state start entries → StopsTable range state start new e)
-    → HasCause 0 0 P → (e ≡ Write → P) → (e ≡ Memory → ⊥) → ⊥
-not-stopped state new Memory P can stops cause by other = other refl
-not-stopped state new Write P can stops cause by other = never_fails P cause (by refl)
-not-stopped state new Unsorted P can stops cause by other = stops can.start can.entries can.inserted
-not-stopped state new ValueRefused P can stops cause by other = stops can.start can.entries can.inserted
-not-stopped state new BlockTooLong P can stops cause by other = short-fit state can.start can.entries can.inserted can.small (stops can.start can.entries can.inserted).0
-not-stopped state new Spent P can stops cause by other = stops can.start can.entries can.inserted
+pub adds-at : {W : Type 0} (old new : Making W (Range ℕ)) (key copy : Key) (places : Range ℕ) → copy ≡ key → Adds old new copy places → Adds old new key places
+adds-at old new key copy places same adds = subst (λ k. Adds old new k places) same adds
 
-pub same-key : {V : Type 0} (old new : TableState V) (k l : Key) (v : V) → k ≡ l
-    → ((start : Option (List ℕ)) (entries : List (Key × V)) → HasInserted old start entries → HasInserted new start (entries ++ (k, v) ∷ []))
-    → (start : Option (List ℕ)) (entries : List (Key × V)) → HasInserted old start entries → HasInserted new start (entries ++ (l, v) ∷ [])
-same-key old new k l v same adds start entries has = subst (λ key. HasInserted new start (entries ++ (key, v) ∷ [])) same (adds start entries has)
+pub not-stopped : {W : Type 0} (told : W → Option (List ℕ)) (w : Making W (Range ℕ)) (sink : W) (e : SstWriteError) (P : Type 0) → (IsTooLong range w → ⊥)
+    → StopsTable range w (told w.sink) (told sink) e → HasCause 0 0 P → (e ≡ Write → P) → (e ≡ Memory → ⊥) → ⊥
+not-stopped told w sink Memory P short stops cause by other = other refl
+not-stopped told w sink Write P short stops cause by other = never_fails P cause (by refl)
+not-stopped told w sink Unsorted P short stops cause by other = stops
+not-stopped told w sink ValueRefused P short stops cause by other = stops
+not-stopped told w sink BlockTooLong P short stops cause by other = short stops.0
+not-stopped told w sink Spent P short stops cause by other = stops
 
 -- ---- a key with the places of its numbers, one after the other
 
@@ -83,40 +74,40 @@ ranged-ends start (p ∷ q ∷ ps) =
     let same : start + length p.1 + length (numbers_of_all (q ∷ ps)) ≡ start + length (numbers_of_all (p ∷ q ∷ ps)) = omega (arith, length-append p.1 (numbers_of_all (q ∷ ps))) in
     ap (λ n. ends_at (values_in (ranged (start + length p.1) (q ∷ ps))) n) (sym same) ∙ ranged-ends (start + length p.1) (q ∷ ps)
 
-ranged-follows : (start : ℕ) (front : List (Key × List ℕ)) (p : Key × List ℕ) (back : List (Key × List ℕ)) (places : Range ℕ)
-    → is_rising (map (λ (posting : Key × List ℕ). posting.0) (front ++ p ∷ back)) ≡ true → may_follow (last_key (ranged start front)) ((p.0, places) ∷ []) ≡ true
+ranged-follows : (start : ℕ) (front : List (Key × List ℕ)) (p : Key × List ℕ) (back : List (Key × List ℕ))
+    → is_rising (map (λ (posting : Key × List ℕ). posting.0) (front ++ p ∷ back)) ≡ true → may_come (last_key (ranged start front)) p.0 ≡ true
 unfolding ranged is_rising
-ranged-follows start [] p back places rising = refl
-ranged-follows start (q ∷ []) p back places rising = (and_parts (is_below q.0 p.0) (is_rising (p.0 ∷ map (λ (posting : Key × List ℕ). posting.0) back)) rising).0
-ranged-follows start (q ∷ r ∷ front) p back places rising =
-    ranged-follows (start + length q.1) (r ∷ front) p back places
+ranged-follows start [] p back rising = refl
+ranged-follows start (q ∷ []) p back rising = (and_parts (is_below q.0 p.0) (is_rising (p.0 ∷ map (λ (posting : Key × List ℕ). posting.0) back)) rising).0
+ranged-follows start (q ∷ r ∷ front) p back rising =
+    ranged-follows (start + length q.1) (r ∷ front) p back
     (and_parts (is_below q.0 r.0) (is_rising (r.0 ∷ map (λ (posting : Key × List ℕ). posting.0) (front ++ p ∷ back))) rising).1
 
-split-at : {X : Type 0} (xs : List X) (i : ℕ) (x : X) → i < length xs → x ≡ get_or xs i x → xs ≡ take i xs ++ x ∷ drop (i + 1) xs
+pub split-at : {X : Type 0} (xs : List X) (i : ℕ) (x : X) → i < length xs → x ≡ get_or xs i x → xs ≡ take i xs ++ x ∷ drop (i + 1) xs
 split-at xs i x within at =
     let next : suc i ≡ i + 1 = omega arith in
     sym (take-append-drop i xs) ∙ ap (λ rest. take i xs ++ rest) (drop-cons xs i x within ∙ ap (λ n. get_or xs i x ∷ drop n xs) next ∙ ap (λ y. y ∷ drop (i + 1) xs) (sym at))
 
-pub can-insert : (state : TableState (Range ℕ)) (sink : Option (List ℕ)) (ps : List (Key × List ℕ)) (i : ℕ) (p : Key × List ℕ) (start end : ℕ)
-    → HasInserted state sink (ranged 0 (take i ps)) → i < length ps → p ≡ get_or ps i p → is_rising (map (λ posting. posting.0) ps) ≡ true
-    → start ≡ length (numbers_of_all (take i ps)) → end ≡ start + length p.1 → CanInsert state p.0 (record { start = start; end = end })
-can-insert state sink ps i p start end has within at rising from to = record {
-  start = sink;
-  entries = ranged 0 (take i ps);
-  inserted = has;
-  follows = ranged-follows 0 (take i ps) p (drop (i + 1) ps) (record { start = start; end = end }) (ap (λ xs. is_rising (map (λ (posting : Key × List ℕ). posting.0) xs)) (sym (split-at ps i p within at)) ∙ rising);
-  adjoins = ap (λ n. ends_at (values_in (ranged 0 (take i ps))) n) (from ∙ omega arith) ∙ ranged-ends 0 (take i ps);
-  ordered = omega (arith, to);
-}
+pub is-taken : {W : Type 0} (w : Making W (Range ℕ)) (sink : W) (ps : List (Key × List ℕ)) (i : ℕ) (p : Key × List ℕ) (start end : ℕ)
+    → HasGathered w sink (ranged 0 (take i ps)) → i < length ps → p ≡ get_or ps i p → is_rising (map (λ posting. posting.0) ps) ≡ true
+    → start ≡ length (numbers_of_all (take i ps)) → end ≡ start + length p.1 → IsTaken range w p.0 (record { start = start; end = end })
+is-taken w sink ps i p start end has within at rising from to =
+    let follows = ranged-follows 0 (take i ps) p (drop (i + 1) ps) (ap (λ xs. is_rising (map (λ (posting : Key × List ℕ). posting.0) xs)) (sym (split-at ps i p within at)) ∙ rising) in
+    let adjoins = ap (λ n. ends_at (values_in (ranged 0 (take i ps))) n) (from ∙ omega arith) ∙ ranged-ends 0 (take i ps) in
+    record {
+      after = ap (λ o. may_come o p.0) has.last ∙ follows;
+      accepted = adjoining-taken w sink (ranged 0 (take i ps)) (record { start = start; end = end }) has (omega (arith, to)) adjoins;
+    }
 
-pub has-one-more : (new : TableState (Range ℕ)) (sink : Option (List ℕ)) (ps : List (Key × List ℕ)) (i : ℕ) (p : Key × List ℕ) (start end : ℕ)
+pub has-one-more : {W : Type 0} (old new : Making W (Range ℕ)) (sink : W) (ps : List (Key × List ℕ)) (i : ℕ) (p : Key × List ℕ) (start end : ℕ)
     → i < length ps → p ≡ get_or ps i p → start ≡ length (numbers_of_all (take i ps)) → end ≡ start + length p.1
-    → HasInserted new sink (ranged 0 (take i ps) ++ (p.0, record { start = start; end = end }) ∷ []) → HasInserted new sink (ranged 0 (take (i + 1) ps))
-has-one-more new sink ps i p start end within at from to has =
+    → HasGathered old sink (ranged 0 (take i ps)) → Adds old new p.0 (record { start = start; end = end }) → HasGathered new sink (ranged 0 (take (i + 1) ps))
+has-one-more old new sink ps i p start end within at from to has adds =
     let more : take (i + 1) ps ≡ take i ps ++ p ∷ [] = take_more ps i p within ∙ ap (λ q. take i ps ++ q ∷ []) (sym at) in
     let first : 0 + length (numbers_of_all (take i ps)) ≡ start = omega (arith, from) in
     let last : 0 + length (numbers_of_all (take i ps)) + length p.1 ≡ end = omega (arith, from, to) in
-    subst (HasInserted new sink) (sym (ap (ranged 0) more ∙ ranged-push 0 (take i ps) p ∙ ap (λ n. ranged 0 (take i ps) ++ (p.0, record { start = n; end = 0 + length (numbers_of_all (take i ps)) + length p.1 }) ∷ []) first ∙ ap (λ n. ranged 0 (take i ps) ++ (p.0, record { start = start; end = n }) ∷ []) last)) has
+    subst (HasGathered new sink) (sym (ap (ranged 0) more ∙ ranged-push 0 (take i ps) p ∙ ap (λ n. ranged 0 (take i ps) ++ (p.0, record { start = n; end = 0 + length (numbers_of_all (take i ps)) + length p.1 }) ∷ []) first ∙ ap (λ n. ranged 0 (take i ps) ++ (p.0, record { start = start; end = n }) ∷ []) last))
+    (gathered-more old new sink (ranged 0 (take i ps)) p.0 (record { start = start; end = end }) has adds)
 
 pub start-more : (ps : List (Key × List ℕ)) (i : ℕ) (p : Key × List ℕ) (start end : ℕ) → i < length ps → p ≡ get_or ps i p → start ≡ length (numbers_of_all (take i ps)) → end ≡ start + length p.1 → end ≡ length (numbers_of_all (take (i + 1) ps))
 start-more ps i p start end within at from to =
@@ -128,10 +119,20 @@ start-fits ps i p start within at from =
     let sum = length-flat_map-take (λ (posting : Key × List ℕ). posting.1) ps i p within in
     omega (arith, sum, from, ap (λ (posting : Key × List ℕ). length posting.1) at)
 
-pub gains-table : {E : Type 0} (r : Result (List ℕ) E) (state : TableState (Range ℕ)) (old : List ℕ) (entries : List (Key × Range ℕ)) → HasInserted state (Some old) entries
-    → IfOk r (λ new. (start : Option (List ℕ)) (entries : List (Key × Range ℕ)) → HasInserted state start entries → AppendsTable range state entries start (Some new))
-    → IfOk r (λ new. GainsTable entries old new)
-gains-table (Ok new) state old entries has gives =
-    let a = gives (Some old) entries has in
-    record { table = a.table; appended = a.appended; told = a.told; version = a.version; ready = a.ready }
-gains-table (Err e) state old entries has gives = tt
+-- small entries make no block that is too long
+pub not-long : {W : Type 0} (w : Making W (Range ℕ)) (sink : W) (entries : List (Key × Range ℕ)) → HasGathered w sink entries
+    → keys_size entries + 31 * length entries + 21 < 2 ^ 32 → IsTooLong range w → ⊥
+not-long w sink entries has small long = short-fit w sink entries has small long
+
+pub gains-table : {E : Type 0} (r : Result (List ℕ) E) (w : Making (List ℕ) (Range ℕ)) (old : List ℕ) (entries : List (Key × Range ℕ)) → HasGathered w old entries
+    → IfOk r (λ new. AppendsTable range w (Some w.sink) (Some new)) → IfOk r (λ new. GainsTable entries old new)
+gains-table (Ok new) w old entries has a =
+    let all : inserted w ≡ Some entries = ap (λ o. option_map (λ blocks. entries_of blocks ++ w.gathered) o) has.closed ∙ ap Some has.gathered in
+    record {
+      table = a.table;
+      appended = a.appended ∙ ap (λ bytes. bytes ++ a.table) has.same_sink;
+      told = subst (λ o. IfSome o (λ es. sst_of range a.table ≡ Some es)) all a.told;
+      version = a.version;
+      ready = a.ready;
+    }
+gains-table (Err e) w old entries has gives = tt

@@ -8,10 +8,10 @@ use Rattle.std.proofs.lemmas.Bool.{and_from}
 use Rattle.std.proofs.lemmas.Bool.{lt-ltb}
 unfoldable use Rattle.index_file.specs.IndexFile.{is_increasing}
 use Rattle.owned_bytes.specs.Keys.{Key, is_same}
-use Rattle.term_documents.specs.declared.documents.Pair.{Pair}
-use Rattle.term_documents.specs.declared.documents.Doc.{Doc}
-use Rattle.term_documents.specs.Documents.{numbers_where}
-use Rattle.term_documents.specs.Postings.{key_of, numbers_of}
+use Rattle.documents.specs.declared.documents.Pair.{Pair}
+use Rattle.documents.specs.declared.documents.Doc.{Doc}
+use Rattle.documents.specs.Documents.{numbers_where}
+use Rattle.documents.specs.Postings.{key_of, numbers_of}
 
 -- one of the pairs has the key
 abbrev pub has : Key → List Pair → Bool

@@ -1,23 +1,26 @@
 -- How the bytes of an index file are made of what was gathered.
-use Rattle.std.specs.Prelude.{◌≡◌, ℕ, ◌+◌, ◌*◌, ◌^◌, ◌<◌, ◌≤◌, List, [], ◌∷◌, ◌++◌, length, true, false, Some, Option}
+use Rattle.std.specs.Prelude.{◌≡◌, ℕ, ◌+◌, List, [], ◌∷◌, ◌++◌, length, false, Option, Some}
 use Rattle.std.specs.Int.{w32, w64, to_le_bytes}
 use Rattle.std.specs.List.{flat_map}
 use Rattle.std.specs.declared.ops.Range.{Range}
 use Rattle.owned_bytes.specs.Keys.{Key}
-use Rattle.sstable_blocks.specs.Codec.{range}
-use Rattle.sstable_blocks.specs.Range.{ends_at}
-use Rattle.sstable_blocks.specs.Run.{last_key, may_follow}
-use Rattle.tantivy_sstable.specs.Laws.{keys_size, values_in}
-use Rattle.tantivy_sstable.specs.Making.{TableState, HasInserted}
-use Rattle.tantivy_sstable.specs.Opening.{version_of, is_waiting}
-use Rattle.tantivy_sstable.specs.Table.{sst_of}
-use Rattle.term_documents.specs.declared.documents.Doc.{Doc}
+use Rattle.tantivy_bitpacker.specs.Packed.{Bits, HasPacked, at_width}
+use Rattle.sstable_values.specs.Codec.{range}
+use Rattle.sstable_format.specs.Version.{version_of}
+use Rattle.sstable_format.specs.Refused.{is_waiting}
+use Rattle.sstable_format.specs.Table.{sst_of}
+use Rattle.documents.specs.declared.documents.Doc.{Doc}
 use Rattle.index_file.specs.IndexFile.{IsIndexOf}
 use Rattle.index_file.specs.Opening.{is_waiting_file}
 
 -- the numbers of all keys, one list after the other
 abbrev pub numbers_of_all : List (Key × List ℕ) → List ℕ
 numbers_of_all postings = flat_map (λ posting. posting.1) postings
+
+-- Whatever was packed before, the packer has packed these numbers behind it, at this width.
+abbrev pub PacksAll : ℕ → List ℕ → Bits → Bits → List ℕ → List ℕ → Type 0
+PacksAll width numbers held now_held told now_told = (pieces : List (ℕ × ℕ)) (before : Option (List ℕ))
+    → HasPacked pieces held before (Some told) → HasPacked (pieces ++ at_width width numbers) now_held before (Some now_told)
 
 -- each key with the places of its numbers, the first at start
 unfoldable pub ranged : ℕ → List (Key × List ℕ) → List (Key × Range ℕ)
@@ -27,22 +30,6 @@ ranged start (posting ∷ postings) =
 
 abbrev pub header_bytes : ℕ → ℕ → List ℕ
 header_bytes documents count = to_le_bytes w32 documents ++ to_le_bytes w64 count
-
--- the entry may be inserted next
-pub record CanInsert (state : TableState (Range ℕ)) (key : Key) (places : Range ℕ) : Type 0 where
-  pub start : Option (List ℕ)
-  pub entries : List (Key × Range ℕ)
-  pub inserted : HasInserted state start entries
-  pub follows : may_follow (last_key entries) ((key, places) ∷ []) ≡ true
-  pub adjoins : ends_at (values_in entries) places.start ≡ true
-  pub ordered : places.start ≤ places.end
-
--- the entries may be written as one block
-pub record CanFinish (state : TableState (Range ℕ)) : Type 0 where
-  pub start : Option (List ℕ)
-  pub entries : List (Key × Range ℕ)
-  pub inserted : HasInserted state start entries
-  pub small : keys_size entries + 31 * length entries + 21 < 2 ^ 32
 
 -- a table of these entries, of version 3, was appended
 pub record GainsTable (entries : List (Key × Range ℕ)) (old new : List ℕ) : Type 0 where

@@ -2,19 +2,23 @@
 use Rattle.std.specs.Prelude.{◌≡◌, ◌⊎◌, ℕ, ◌*◌, ◌^◌, ◌<◌, ◌≤◌, List, length, false, Option, Some, Result, Ok, Err}
 use Rattle.std.specs.Io.KnownBytes.{Appends, Keeps}
 use Rattle.owned_bytes.specs.Outside.{AppendsPrefix}
-use Rattle.tantivy_sstable.specs.Opening.{version_of}
-use Rattle.term_documents.specs.declared.documents.Doc.{Doc}
-use Rattle.term_documents.specs.declared.faults.Fault.TheVariants as faults
-use Rattle.term_documents.specs.declared.faults.PlacedFault.{PlacedFault}
-use Rattle.term_documents.specs.Documents.{AreValidDocuments, documents_size, first_fault}
+use Rattle.sstable_format.specs.Version.{version_of}
+use Rattle.documents.specs.declared.documents.Doc.{Doc}
+use Rattle.documents.specs.declared.faults.Fault.TheVariants as faults
+use Rattle.documents.specs.declared.faults.PlacedFault.{PlacedFault}
+use Rattle.documents.specs.Documents.{AreValidDocuments, documents_size, first_fault}
 use Rattle.index_file.specs.IndexFile.{IsIndexOf}
 use Rattle.index_file.specs.Opening.{is_waiting_file}
 use Rattle.index_writing.specs.declared.errors.WriteError.{WriteError}
 use Rattle.index_writing.specs.declared.errors.WriteError.TheVariants.{Memory, Write, TooManyDocuments, BadField, KeyTooLong, ArenaFull}
 
+-- the size of documents that a page takes
+abbrev pub page_size : ℕ
+page_size = 900000
+
 -- the greatest size of documents that so many pages take
 abbrev pub size_limit : ℕ → ℕ
-size_limit pages = 900000 * pages
+size_limit pages = page_size * pages
 
 -- the documents fit into so many pages
 abbrev pub FitPages : List Doc → ℕ → Type 0

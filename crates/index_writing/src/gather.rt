@@ -1,29 +1,22 @@
 // Gathers documents: each key, in order, with the numbers of the documents that have it.
-ghost use Rattle.std.specs.Prelude.{◌≡◌, ◌++◌, ◌∷◌, [], ◌^◌, ◌<◌, ℕ, List, OnOk, IfOk, length, unwrap_or, Some};
-ghost use Rattle.term_documents.specs.Postings.{key_of, gather};
+ghost use Rattle.std.specs.Prelude.{◌≡◌, ◌^◌, ◌<◌, OnOk, IfOk, length};
+ghost use Rattle.documents.specs.Postings.{gather};
+ghost use Rattle.documents.specs.Postings as spec;
 ghost use Rattle.std.specs.Cmp.Lexicographic.{slice_cmp};
 ghost use Rattle.std.specs.BTreeMap.{IsOrdered};
-ghost use Rattle.std.specs.Map.{update};
-ghost use Rattle.std.specs.Ordering.{nat_cmp, eq_by_cmp};
-ghost use Rattle.index_writing.specs.Gathering.{with_number, numbers_at, Tells};
-ghost use Rattle.index_writing.specs.Gathering as spec;
+ghost use Rattle.std.specs.Ordering.{nat_cmp};
+ghost use Rattle.index_writing.specs.Gathering.{with_number, Tells, AddsNumber, AddsDocument};
 
+use documents::{Doc, Pair, key_of};
 use owned_bytes::{Ids, Key};
 use std::alloc::{AllocError, Global};
 use std::collections::BTreeMap;
-use term_documents::{Doc, Pair};
 
 // The key of the pair.
-fn key_of(alloc: Global, pair: &Pair) -> Result<Key, AllocError>
-    ensures { IfOk result (λ key. key ≡ key_of pair.now) }
+fn key_of_pair(alloc: Global, pair: &Pair) -> Result<Key, AllocError>
+    ensures { IfOk result (λ key. key ≡ spec.key_of pair.now) }
 {
-    let field = pair.field.as_str().as_bytes();
-    let term = pair.term.as_str().as_bytes();
-    let mut bytes = Vec::with_capacity(alloc, field.len() + term.len() + 1)?;
-    bytes.extend_from_slice(field)?;
-    bytes.push(0)?;
-    bytes.extend_from_slice(term)?;
-    Ok(Key::from_vec(bytes))
+    key_of(alloc, pair.field.as_str(), pair.term.as_str())
 }
 
 // Adds the number, where it isn't the last.
@@ -45,7 +38,7 @@ fn add_number(
     key: Key,
     number: u32,
 ) -> Result<(), AllocError>
-    ensures { OnOk result ((q : List ℕ) → numbers_at gathered.new q ≡ update (eq_by_cmp (slice_cmp nat_cmp)) (numbers_at gathered.old) key (Some (with_number number (unwrap_or (numbers_at gathered.old key) []))) q) }
+    ensures { OnOk result (AddsNumber key number gathered.old gathered.new) }
 {
     let ids = gathered.entry(key)?.or_insert(Ids::new(alloc));
     push_number(ids, number)?;
@@ -59,10 +52,10 @@ fn add_doc(
     number: u32,
     doc: &Doc,
 ) -> Result<(), AllocError>
-    ensures { OnOk result ((docs : List Doc) → length docs ≡ number → Tells gathered.old docs → Tells gathered.new (docs ++ doc.now ∷ [])) }
+    ensures { OnOk result (AddsDocument number doc.now gathered.old gathered.new) }
 {
     for pair in doc.pairs.as_slice() {
-        let key = key_of(alloc, pair)?;
+        let key = key_of_pair(alloc, pair)?;
         add_number(alloc, gathered, key, number)?;
     }
     Ok(())

@@ -9,4 +9,5 @@ mod table;
 mod write;
 
 pub use errors::WriteError;
+pub use file::{MOST_PAGES, PAGE_SIZE};
 pub use write::write_index;

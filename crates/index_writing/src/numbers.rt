@@ -1,7 +1,7 @@
 // The bytes of an index file before its table.
-ghost use Rattle.std.specs.Prelude.{◌≡◌, ◌≢◌, ◌≤◌, ◌<◌, ◌^◌, ◌++◌, Err, Ok, IfOk, OnOk, IsOk, All, MatchResult};
+ghost use Rattle.std.specs.Prelude.{◌≡◌, ◌≢◌, ◌≤◌, ◌<◌, ◌^◌, ◌++◌, Err, OnOk, IsOk, length};
 ghost use Rattle.tantivy_bitpacker.specs.Packed.{packed, FitWidth};
-ghost use Rattle.index_writing.specs.Emitting.{numbers_of_all, header_bytes};
+ghost use Rattle.index_writing.specs.Emitting.{numbers_of_all, header_bytes, PacksAll};
 
 use owned_bytes::{Ids, Key, Sink, SinkError, VecSink};
 use std::alloc::{AllocError, Global};
@@ -29,26 +29,48 @@ pub(crate) fn write_header(documents: u32, count: u64, sink: &mut VecSink) -> Re
     Ok(())
 }
 
-/// The numbers of all keys, one list after the other.
-pub(crate) fn numbers_of_all(alloc: Global, postings: &[(Key, Ids)]) -> Result<Vec<u32>, AllocError>
-    ensures { IfOk result (λ numbers. numbers.items ≡ numbers_of_all postings.now) }
+/// How many numbers all keys have.
+pub(crate) fn count_of_numbers(postings: &[(Key, Ids)]) -> u64
+    requires { length (numbers_of_all postings.now) < 2 ^ 64 }
+    ensures { result ≡ length (numbers_of_all postings.now) }
 {
-    let mut numbers = Vec::new(alloc);
+    let mut count = 0u64;
     for posting in postings {
-        numbers.extend_from_slice(posting.1.as_slice())?;
+        count += posting.1.len() as u64;
     }
-    Ok(numbers)
+    count
 }
 
-/// Appends the numbers, packed at this width.
-pub(crate) fn pack_numbers(numbers: &[u32], width: u8, sink: &mut VecSink) -> Result<(), AllocError>
+// Packs the numbers behind those that were packed before.
+fn pack_list(
+    numbers: &[u32],
+    width: u8,
+    packer: &mut BitPacker,
+    sink: &mut VecSink,
+) -> Result<(), AllocError>
     requires width { width ≤ 64 }
     requires fits { FitWidth width numbers.now }
-    ensures { OnOk result (sink.new ≡ sink.old ++ packed width numbers.now) }
+    ensures { OnOk result (PacksAll width numbers.now packer.old packer.new sink.old sink.new) }
 {
-    let mut packer = BitPacker::new();
     for number in numbers {
         in_memory(packer.write(*number as u64, width, sink))?;
+    }
+    Ok(())
+}
+
+/// Appends the numbers of all keys, packed at this width, one list after the other.
+pub(crate) fn pack_numbers(
+    postings: &[(Key, Ids)],
+    width: u8,
+    sink: &mut VecSink,
+) -> Result<(), AllocError>
+    requires width { width ≤ 64 }
+    requires fits { FitWidth width (numbers_of_all postings.now) }
+    ensures { OnOk result (sink.new ≡ sink.old ++ packed width (numbers_of_all postings.now)) }
+{
+    let mut packer = BitPacker::new();
+    for posting in postings {
+        pack_list(posting.1.as_slice(), width, &mut packer, sink)?;
     }
     in_memory(packer.close(sink))?;
     Ok(())

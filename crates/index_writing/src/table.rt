@@ -1,15 +1,13 @@
 // The table of an index file.
-ghost use Rattle.std.specs.Prelude.{◌≡◌, ◌+◌, ◌*◌, ◌<◌, ◌^◌, ℕ, List, Option, Some, [], ◌∷◌, ◌++◌, IfOk, OnOk, true, length, map};
-ghost use Rattle.std.specs.declared.ops.Range.{Range};
-ghost use Rattle.owned_bytes.specs.Keys.{Key, is_rising};
-ghost use Rattle.sstable_blocks.specs.Codec.{range};
-ghost use Rattle.tantivy_sstable.specs.Laws.{keys_size};
-ghost use Rattle.tantivy_sstable.specs.Making.{HasInserted, AppendsTable};
-ghost use Rattle.tantivy_sstable.specs.Writer.{writes};
-ghost use Rattle.index_writing.specs.Emitting.{numbers_of_all, ranged, CanInsert, CanFinish, GainsTable};
+ghost use Rattle.std.specs.Prelude.{◌≡◌, ◌+◌, ◌*◌, ◌<◌, ◌^◌, Some, IfOk, OnOk, true, length, map};
+ghost use Rattle.owned_bytes.specs.Keys.{is_rising};
+ghost use Rattle.sstable_values.specs.Codec.{range};
+ghost use Rattle.sstable_tables.specs.Laws.{HasGathered, keys_size};
+ghost use Rattle.sstable_tables.specs.Making.{IsTaken, Adds, IsTooLong, AppendsTable};
+ghost use Rattle.index_writing.specs.Emitting.{numbers_of_all, ranged, GainsTable};
 
-use owned_bytes::{Ids, Key, Sink, VecSink};
-use sstable_blocks::{RangeValueWriter, ValueWriter};
+use owned_bytes::{Ids, Key, VecSink};
+use sstable_blocks::RangeValueWriter;
 use std::alloc::{AllocError, Global};
 use std::ops::Range;
 use tantivy_sstable::{SstWriteError, Writer};
@@ -18,8 +16,8 @@ type RangeWriter = Writer<VecSink, RangeValueWriter>;
 
 // Adds an entry that may come next.
 fn insert_next(writer: &mut RangeWriter, key: &Key, places: Range<u64>) -> Result<(), AllocError>
-    requires { CanInsert (writes ⟦<RangeValueWriter as ValueWriter>⟧.written ⟦<VecSink as Sink>⟧.written ⟦<VecSink as Sink>⟧.faults writer.old) key.now places }
-    ensures { OnOk result ((start : Option (List ℕ)) (entries : List (Key × Range ℕ)) → HasInserted (writes ⟦<RangeValueWriter as ValueWriter>⟧.written ⟦<VecSink as Sink>⟧.written ⟦<VecSink as Sink>⟧.faults writer.old) start entries → HasInserted (writes ⟦<RangeValueWriter as ValueWriter>⟧.written ⟦<VecSink as Sink>⟧.written ⟦<VecSink as Sink>⟧.faults writer.new) start (entries ++ (key.now, places) ∷ [])) }
+    requires { IsTaken range writer.old key.now places }
+    ensures { OnOk result (Adds writer.old writer.new key.now places) }
 {
     match writer.insert(key.as_slice(), &places) {
         Ok(()) => Ok(()),
@@ -38,7 +36,7 @@ fn ranges_writer(
 ) -> Result<RangeWriter, AllocError>
     requires rising { is_rising (map (λ posting. posting.0) postings.now) ≡ true }
     requires few { length (numbers_of_all postings.now) < 2 ^ 64 }
-    ensures { IfOk result (λ writer. HasInserted (writes ⟦<RangeValueWriter as ValueWriter>⟧.written ⟦<VecSink as Sink>⟧.written ⟦<VecSink as Sink>⟧.faults writer) (Some sink) (ranged 0 postings.now)) }
+    ensures { IfOk result (λ writer. HasGathered writer sink (ranged 0 postings.now)) }
 {
     let mut writer = Writer::new(alloc, sink);
     let mut start = 0;
@@ -52,8 +50,8 @@ fn ranges_writer(
 
 // Writes the table, and hands back the sink.
 fn finish(writer: RangeWriter) -> Result<VecSink, AllocError>
-    requires { CanFinish (writes ⟦<RangeValueWriter as ValueWriter>⟧.written ⟦<VecSink as Sink>⟧.written ⟦<VecSink as Sink>⟧.faults writer) }
-    ensures { IfOk result (λ sink. (start : Option (List ℕ)) (entries : List (Key × Range ℕ)) → HasInserted (writes ⟦<RangeValueWriter as ValueWriter>⟧.written ⟦<VecSink as Sink>⟧.written ⟦<VecSink as Sink>⟧.faults writer) start entries → AppendsTable range (writes ⟦<RangeValueWriter as ValueWriter>⟧.written ⟦<VecSink as Sink>⟧.written ⟦<VecSink as Sink>⟧.faults writer) entries start (Some sink)) }
+    requires { ¬ IsTooLong range writer }
+    ensures { IfOk result (λ sink. AppendsTable range writer (Some writer.sink) (Some sink)) }
 {
     match writer.finish() {
         Ok(sink) => Ok(sink),

@@ -4,13 +4,10 @@ ghost use Rattle.owned_bytes.specs.Outside.{HasCause, WritesAll};
 ghost use Rattle.index_writing.specs.Writes.{Writes, error_of};
 
 use crate::errors::WriteError;
-use crate::file::index_bytes;
+use crate::file::{MOST_PAGES, PAGE_SIZE, index_bytes};
+use documents::{Doc, Fault, PlacedFault, documents_size, first_fault};
 use owned_bytes::{Sink, SinkError};
 use std::alloc::Global;
-use term_documents::{Doc, Fault, PlacedFault, documents_size, first_fault};
-
-// The size of documents that a page takes.
-const PAGE_SIZE: u64 = 900_000;
 
 // The same fault.
 fn error_of(found: PlacedFault) -> WriteError
@@ -41,7 +38,7 @@ pub fn write_index<W: Sink>(
     page_limit: u32,
 ) -> Result<(), WriteError>
     requires some { 1 ≤ page_limit }
-    requires few { page_limit ≤ 4096 }
+    requires few { page_limit ≤ MOST_PAGES }
     ensures writes { Writes docs.now page_limit (W.written sink.old) (W.written sink.new) result }
     ensures cause { HasCause (W.faults sink.old) (W.faults sink.new) (result ≡ Err WriteError.Write) }
 {

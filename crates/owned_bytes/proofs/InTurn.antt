@@ -1,9 +1,9 @@
 -- Two writes, one after the other.
-use Rattle.std.proofs.Common.{◌≡◌, ℕ, List, [], ◌++◌, length, drop, None, Some, Option, Result, Ok, Err, sym, ap, ◌∙◌, refl, append_assoc, append-nil, arith}
+use Rattle.std.proofs.Common.{◌≡◌, ℕ, List, ◌++◌, length, drop, None, Some, Option, Result, Ok, Err, sym, ap, ◌∙◌, refl, append_assoc, arith}
 use Rattle.std.proofs.lemmas.List.{append_cancel_left}
 use Rattle.std.proofs.KnownBytes.{Appends-trans, starts_with_rest}
 use Rattle.std.specs.Io.{StartsWith}
-use Rattle.std.specs.Io.KnownBytes.{Appends, Keeps}
+use Rattle.std.specs.Io.KnownBytes.{Appends}
 use Rattle.owned_bytes.specs.Outside.{AppendsPrefix, WritesAll, HasCause, Rose}
 use Rattle.owned_bytes.proofs.Prefixes.{AppendsPrefix-of_front}
 
@@ -23,12 +23,6 @@ cut_of xs ys bs begins within =
 of_cut : (xs ys bs : List ℕ) → Cut xs ys bs → AppendsPrefix (Some xs) (Some ys) bs
 unfolding Cut
 of_cut xs ys bs (front, rest, is, split) = AppendsPrefix-of_front (Some xs) (Some ys) (Some ys) front rest bs is refl split
-
--- nothing is a prefix of all bytes
-pub AppendsPrefix-nothing : (a b : Option (List ℕ)) (bs : List ℕ) → Keeps a b → AppendsPrefix a b bs
-AppendsPrefix-nothing None b bs kept = tt
-AppendsPrefix-nothing (Some xs) None bs kept = absurd kept
-AppendsPrefix-nothing (Some xs) (Some ys) bs kept = AppendsPrefix-of_front (Some xs) (Some ys) (Some ys) [] bs bs (kept ∙ sym (append-nil xs)) refl refl
 
 -- all bytes are a prefix of themselves and more
 pub AppendsPrefix-all : (a b : Option (List ℕ)) (bs more : List ℕ) → Appends a b bs → AppendsPrefix a b (bs ++ more)
@@ -65,13 +59,6 @@ pub HasCause-second : (before middle now : ℕ) (P Q : Type 0) → HasCause befo
 HasCause-second before middle now P Q first second = record {
   later = omega (arith, first.later, second.later);
   rose = λ failed. let risen : Rose middle now = second.rose failed in omega (arith, first.later, risen);
-}
-
--- a failure of the first call is one of both
-pub HasCause-first : (before middle now : ℕ) (P Q : Type 0) → HasCause before middle P → HasCause middle now Q → HasCause before now P
-HasCause-first before middle now P Q first second = record {
-  later = omega (arith, first.later, second.later);
-  rose = λ failed. let risen : Rose before middle = first.rose failed in omega (arith, second.later, risen);
 }
 
 -- where the count of faults is the constant 0, no call fails by the object

@@ -1,3 +1,4 @@
 pub mod Prefixes
 pub mod Pieces
 pub mod InTurn
+pub mod FileReads

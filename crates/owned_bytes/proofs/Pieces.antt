@@ -1,7 +1,7 @@
 -- Laws of pieces: they are what stands at the front and then the pieces of the rest, however many there may be at most.
-use Rattle.std.proofs.Common.{◌≡◌, ℕ, zero, suc, ◌+◌, ◌-◌, ◌<◌, ◌≤◌, List, [], ◌∷◌, ◌++◌, length, Option, Some, None, refl, ap, sym, ◌∙◌, arith, append_assoc, length-append, take, drop, length-drop}
+use Rattle.std.proofs.Common.{◌≡◌, ℕ, zero, suc, ◌-◌, ◌<◌, ◌≤◌, List, [], ◌∷◌, ◌++◌, length, Option, Some, None, refl, ap, sym, ◌∙◌, arith, append_assoc, length-append, take, drop, length-drop}
 use Rattle.std.specs.Prelude.{nat_le, Bool, true, false}
-use Rattle.std.proofs.lemmas.Bool.{leb-true, le-leb}
+use Rattle.std.proofs.lemmas.Bool.{le-leb}
 use Rattle.std.proofs.lemmas.List.{take_all}
 use Rattle.std.proofs.Math.Seq.{take-append_seam, drop-append_seam}
 use Rattle.std.specs.List.{flat_map, AllByRecursion}
@@ -124,15 +124,6 @@ pieces-extended front s l bytes more xs e = extended-upto front s l (length byte
 pub provided-true : (b : Bool) (x : Unit {0}) → provided b ≡ Some x → b ≡ true
 provided-true true x e = refl
 provided-true false x e = absurd cc
-
--- so many bytes and the rest are all
-pub bytes_at-takes : (n : ℕ) (bytes : List ℕ) (found : List ℕ × List ℕ) → bytes_at n bytes ≡ Some found → n + length found.1 ≡ length bytes
-bytes_at-takes n bytes found e =
-    let step = bind_some (provided (nat_le n (length bytes))) (λ _. Some (take n bytes, drop n bytes)) found e in
-    let same : (take n bytes, drop n bytes) ≡ found = some_is _ _ step.2 in
-    let rest : drop n bytes ≡ found.1 = ap (λ (p : List ℕ × List ℕ). p.1) same in
-    let there : n ≤ length bytes = leb-true _ _ (provided-true _ _ step.1) in
-    omega (arith, there, ap length rest, length-drop n bytes)
 
 -- where there are so many bytes, they are found
 pub bytes_at-front : (n : ℕ) (bytes : List ℕ) → n ≤ length bytes → bytes_at n bytes ≡ Some (take n bytes, drop n bytes)

@@ -1,6 +1,11 @@
--- What contracts see of the sinks, sources and files in memory.
-use Rattle.std.specs.Prelude.{ℕ, ◌+◌, ◌-◌, ◌^◌, min, List, Bool, ◌==◌, if◌then◌else◌}
+-- What contracts see of bytes, and of the sinks, sources and files in memory.
+use Rattle.std.specs.Prelude.{◌≡◌, ℕ, ◌+◌, ◌-◌, ◌^◌, min, List, length, take, drop, Some, Bool, ◌==◌, if◌then◌else◌}
 use Rattle.std.specs.List.{list_any}
+use Rattle.owned_bytes.specs.Outside.{FileState}
+
+-- the first n bytes, and those after them
+abbrev pub IsCut : List ℕ → ℕ → List ℕ × List ℕ → Type 0
+IsCut bytes n parts = (parts.0 ≡ take n bytes) × (parts.1 ≡ drop n bytes)
 
 -- a count that rises by n, up to the greatest `u64`
 abbrev pub raised : ℕ → ℕ → ℕ
@@ -54,3 +59,15 @@ pub record FailingCounted : Type 0 where
 -- one more read, of n bytes
 abbrev pub after_read : ℕ → Counted → Counted
 after_read n f = record { contents = f.contents; reads = raised f.reads 1; fetched = raised f.fetched n }
+
+-- bytes as a file that never fails and counts nothing
+abbrev pub of_bytes : List ℕ → FileState
+of_bytes bytes = record { contents = Some bytes; size = length bytes; faults = 0; reads = 0; fetched = 0 }
+
+-- a file that never fails
+abbrev pub of_counted : Counted → FileState
+of_counted f = record { contents = Some f.contents; size = length f.contents; faults = 0; reads = f.reads; fetched = f.fetched }
+
+-- a file with calls that shall fail
+abbrev pub of_failing : FailingCounted → FileState
+of_failing f = record { contents = Some f.file.contents; size = length f.file.contents; faults = f.failing.faults; reads = f.file.reads; fetched = f.file.fetched }

@@ -5,7 +5,7 @@ ghost use Rattle.owned_bytes.specs.InMemory.{fails_next, after_call, at_first};
 
 use std::marker::Model;
 
-/// Which calls shall fail, by their numbers from 1 on, and how many were made and failed.
+// Which calls shall fail, by their numbers from 1 on, and how many were made and failed.
 #[derive(Drop)]
 pub(crate) struct FailingCalls {
     fails: Vec<u64>,
@@ -32,7 +32,7 @@ impl FailingCalls {
         }
     }
 
-    /// Whether the call that begins now shall fail.
+    // Whether the call that begins now shall fail.
     pub(crate) fn fails_now(&mut self) -> bool
         ensures answer { result ≡ fails_next self.old }
         ensures counts { self.new ≡ after_call self.old }

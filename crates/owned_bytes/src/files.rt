@@ -1,8 +1,8 @@
 // Files over bytes in memory, with counts.
-ghost use Rattle.std.specs.Prelude.{◌≡◌, ◌+◌, ◌-◌, ◌≤◌, min, length, slice_range, Some, Ok, Err, IfOk, IfErr, MatchResult, refl};
+ghost use Rattle.std.specs.Prelude.{◌≡◌, ◌-◌, ◌≤◌, length, Err, IfOk, IfErr, refl};
 ghost use Rattle.std.specs.Bool.{OnTrue, OnFalse};
-ghost use Rattle.owned_bytes.specs.Outside.{HasCause, IsPart, RisesAtMost};
-ghost use Rattle.owned_bytes.specs.InMemory.{raised, fails_next, after_call, at_first, after_read};
+ghost use Rattle.owned_bytes.specs.Outside.{RisesAtMost, FileFailed, ReadsFile, IsRead};
+ghost use Rattle.owned_bytes.specs.InMemory.{fails_next, after_call, at_first, after_read, of_counted, of_failing};
 
 use crate::failing::FailingCalls;
 use crate::{FileHandle, HandleError, HasLen, OwnedBytes};
@@ -27,6 +27,7 @@ impl Model for BytesFile {
 }
 
 impl BytesFile {
+    /// The bytes as a file, before any read.
     pub fn new(bytes: OwnedBytes) -> BytesFile
         ensures contents { result.contents ≡ bytes }
         ensures reads { result.reads ≡ 0 }
@@ -73,26 +74,17 @@ impl HasLen for BytesFile {
 }
 
 impl FileHandle for BytesFile {
-    ghost contents = { λ file. Some file.contents };
+    ghost state = { of_counted };
 
-    ghost faults = { λ _. 0 };
-
-    ghost reads = { λ file. file.reads };
-
-    ghost fetched = { λ file. file.fetched };
+    ghost size_is = { λ _. refl };
 
     ghost contents_len = { λ _. refl };
 
     fn read_bytes(&mut self, alloc: Global, range: Range<usize>) -> Result<OwnedBytes, HandleError>
         requires ordered { range.start ≤ range.end }
         requires within { range.end ≤ length self.old.contents }
-        ensures bytes { IfOk result (λ part. IsPart (Some self.old.contents) range.start range.end part) }
-        ensures length { IfOk result (λ part. length part ≡ range.end - range.start) }
-        ensures contents { Some self.new.contents ≡ Some self.old.contents }
-        ensures size { length self.new.contents ≡ length self.old.contents }
-        ensures cause { HasCause 0 0 (result ≡ Err HandleError.Failed) }
-        ensures reads { RisesAtMost self.old.reads self.new.reads 1 }
-        ensures fetched { RisesAtMost self.old.fetched self.new.fetched (range.end - range.start) }
+        ensures part { IfOk result (IsRead (of_counted self.old) range.start range.end) }
+        ensures reads { ReadsFile (of_counted self.old) (of_counted self.new) (FileFailed result) 1 (range.end - range.start) }
         ensures counts { self.new ≡ after_read (range.end - range.start) self.old }
         ensures memory { IfErr result (λ e. e ≡ HandleError.Memory) }
     {
@@ -117,6 +109,7 @@ impl Model for MemFile {
 }
 
 impl MemFile {
+    /// The bytes as a file, before any read, and which of its reads shall fail.
     pub fn new(bytes: OwnedBytes, fails: Vec<u64>) -> MemFile
         ensures contents { result.file.contents ≡ bytes }
         ensures reads { result.file.reads ≡ 0 }
@@ -153,26 +146,17 @@ impl HasLen for MemFile {
 }
 
 impl FileHandle for MemFile {
-    ghost contents = { λ it. Some it.file.contents };
+    ghost state = { of_failing };
 
-    ghost faults = { λ it. it.failing.faults };
-
-    ghost reads = { λ it. it.file.reads };
-
-    ghost fetched = { λ it. it.file.fetched };
+    ghost size_is = { λ _. refl };
 
     ghost contents_len = { λ _. refl };
 
     fn read_bytes(&mut self, alloc: Global, range: Range<usize>) -> Result<OwnedBytes, HandleError>
         requires ordered { range.start ≤ range.end }
         requires within { range.end ≤ length self.old.file.contents }
-        ensures bytes { IfOk result (λ part. IsPart (Some self.old.file.contents) range.start range.end part) }
-        ensures length { IfOk result (λ part. length part ≡ range.end - range.start) }
-        ensures contents { Some self.new.file.contents ≡ Some self.old.file.contents }
-        ensures size { length self.new.file.contents ≡ length self.old.file.contents }
-        ensures cause { HasCause self.old.failing.faults self.new.failing.faults (result ≡ Err HandleError.Failed) }
-        ensures reads { RisesAtMost self.old.file.reads self.new.file.reads 1 }
-        ensures fetched { RisesAtMost self.old.file.fetched self.new.file.fetched (range.end - range.start) }
+        ensures part { IfOk result (IsRead (of_failing self.old) range.start range.end) }
+        ensures reads { ReadsFile (of_failing self.old) (of_failing self.new) (FileFailed result) 1 (range.end - range.start) }
         ensures counts { self.new.file ≡ after_read (range.end - range.start) self.old.file }
         ensures calls { self.new.failing ≡ after_call self.old.failing }
         ensures fails { OnTrue (fails_next self.old.failing) (result ≡ Err HandleError.Failed) }

@@ -1,5 +1,5 @@
 // Keys and lists of them, which contracts see as lists of bytes.
-ghost use Rattle.std.specs.Prelude.{◌≡◌, [], ◌∷◌, ◌++◌, length, IfOk, OnOk, OnErr};
+ghost use Rattle.std.specs.Prelude.{◌≡◌, length, IfOk};
 ghost use Rattle.std.specs.Prelude.{nat_eq};
 ghost use Rattle.std.specs.Cmp.{partial_order_from_own_ties};
 ghost use Rattle.std.specs.Ordering.{nat_cmp, as_partial_cmp};
@@ -7,6 +7,7 @@ ghost use Rattle.std.specs.Cmp.Lexicographic.{pointwise, slice_cmp};
 ghost use Rattle.std.specs.Cmp.Rules.{comparing};
 ghost use Rattle.std.proofs.Common.{rules};
 
+use crate::{CloneIn, Items};
 use std::alloc::{AllocError, Global};
 use std::cmp::Ordering;
 use std::marker::Model;
@@ -42,22 +43,31 @@ impl Key {
         Key { bytes }
     }
 
+    /// How many bytes the key has.
     pub fn len(&self) -> usize
         ensures { result ≡ length self.now }
     {
         self.bytes.len()
     }
 
+    /// The bytes, which are lent.
     pub fn as_slice(&self) -> &[u8]
         ensures { result.now ≡ self.now }
     {
         self.bytes.as_slice()
     }
 
+    /// A copy of the key.
     pub fn clone(&self, alloc: Global) -> Result<Key, AllocError>
         ensures { IfOk result (λ copy. copy ≡ self.now) }
     {
         Key::from_slice(alloc, self.as_slice())
+    }
+}
+
+impl CloneIn for Key {
+    fn clone_in(&self, alloc: Global) -> Result<Key, AllocError> {
+        self.clone(alloc)
     }
 }
 
@@ -100,46 +110,4 @@ impl Ord for Key {
 }
 
 /// Keys, which contracts see as the list of them.
-#[derive(Debug, Drop)]
-pub struct KeyList {
-    items: Vec<Key>,
-}
-
-impl Model for KeyList {
-    ghost use Rattle.std.specs.Prelude.{List, ℕ};
-
-    ghost Value = { List (List ℕ) };
-
-    ghost view = { λ keys. keys.items.items };
-}
-
-impl KeyList {
-    pub fn new(alloc: Global) -> KeyList
-        ensures { result ≡ [] }
-    {
-        KeyList {
-            items: Vec::new(alloc),
-        }
-    }
-
-    /// An error leaves the list as it was.
-    pub fn push(&mut self, item: Key) -> Result<(), AllocError>
-        ensures ok { OnOk result (self.new ≡ self.old ++ item ∷ []) }
-        ensures err { OnErr result (self.new ≡ self.old) }
-    {
-        self.items.push(item)?;
-        Ok(())
-    }
-
-    pub fn len(&self) -> usize
-        ensures { result ≡ length self.now }
-    {
-        self.items.len()
-    }
-
-    pub fn as_slice(&self) -> &[Key]
-        ensures { result.now ≡ self.now }
-    {
-        self.items.as_slice()
-    }
-}
+pub type KeyList = Items<Key>;

@@ -2,27 +2,31 @@
 #![tactic(auto)]
 
 mod boxed;
+mod ends;
 mod failing;
 mod files;
 mod items;
 mod keys;
-mod lists;
 mod outside;
 mod passing;
 mod shared;
 mod sinks;
 mod sources;
 mod standard;
+mod texts;
 mod wrap_file;
 
 pub use boxed::Boxed;
+pub use ends::{last_u32, last_u64};
 pub use files::{BytesFile, MemFile};
-pub use items::Items;
+pub use items::{CloneIn, Ids, Items};
 pub use keys::{Key, KeyList};
-pub use lists::{Ids, Text, Texts};
-pub use outside::{FileHandle, HandleError, HasLen, Sink, SinkError, Source, SourceFault};
+pub use outside::{
+    FileHandle, HandleError, HasLen, Sink, SinkError, Source, SourceFault, file_len,
+};
 pub use shared::OwnedBytes;
 pub use sinks::{MemSink, VecSink};
 pub use sources::{MemSource, SliceSource};
 pub use standard::{StdSink, StdSource};
+pub use texts::{Text, Texts};
 pub use wrap_file::WrapFile;

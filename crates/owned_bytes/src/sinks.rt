@@ -1,8 +1,8 @@
 // Sinks in memory.
-ghost use Rattle.std.specs.Prelude.{◌≡◌, [], ◌++◌, Some, Err, IsOk, IfErr, OnOk, OnErr, MatchResult};
+ghost use Rattle.std.specs.Prelude.{◌≡◌, [], ◌++◌, Some, IsOk, IfErr, OnOk, OnErr};
 ghost use Rattle.std.specs.Bool.{OnTrue, OnFalse};
 ghost use Rattle.std.specs.Io.KnownBytes.{Keeps};
-ghost use Rattle.owned_bytes.specs.Outside.{HasCause, WritesAll};
+ghost use Rattle.owned_bytes.specs.Outside.{HasCause, WritesAll, SinkFailed};
 ghost use Rattle.owned_bytes.specs.InMemory.{fails_next, after_call, at_first};
 
 use crate::failing::FailingCalls;
@@ -25,6 +25,7 @@ impl Model for VecSink {
 }
 
 impl VecSink {
+    /// A sink that was given nothing.
     pub fn new(alloc: Global) -> VecSink
         ensures { result ≡ [] }
     {
@@ -33,12 +34,14 @@ impl VecSink {
         }
     }
 
+    /// The bytes that it was given, which are lent.
     pub fn bytes(&self) -> &[u8]
         ensures { result.now ≡ self.now }
     {
         self.bytes.as_slice()
     }
 
+    /// The bytes that it was given.
     pub fn into_bytes(self) -> Vec<u8>
         ensures { result.items ≡ self }
     {
@@ -55,7 +58,7 @@ impl Sink for VecSink {
     /// An error leaves the sink as it was.
     fn write_all(&mut self, bytes: &[u8]) -> Result<(), SinkError>
         ensures bytes { WritesAll (Some self.old) (Some self.new) result bytes.now }
-        ensures cause { HasCause 0 0 (result ≡ Err SinkError.Failed) }
+        ensures cause { HasCause 0 0 (SinkFailed result) }
         ensures ok { OnOk result (self.new ≡ self.old ++ bytes.now) }
         ensures err { OnErr result (self.new ≡ self.old) }
         ensures memory { IfErr result (λ e. e ≡ SinkError.Memory) }
@@ -66,7 +69,7 @@ impl Sink for VecSink {
 
     fn flush(&mut self) -> Result<(), SinkError>
         ensures bytes { Keeps (Some self.old) (Some self.new) }
-        ensures cause { HasCause 0 0 (result ≡ Err SinkError.Failed) }
+        ensures cause { HasCause 0 0 (SinkFailed result) }
         ensures ok { IsOk result }
     {
         Ok(())
@@ -89,6 +92,7 @@ impl Model for MemSink {
 }
 
 impl MemSink {
+    /// A sink that was given nothing, and which of its calls shall fail.
     pub fn new(alloc: Global, fails: Vec<u64>) -> MemSink
         ensures written { result.written ≡ [] }
         ensures failing { result.failing ≡ at_first fails.items }
@@ -99,12 +103,14 @@ impl MemSink {
         }
     }
 
+    /// The bytes that it was given, which are lent.
     pub fn bytes(&self) -> &[u8]
         ensures { result.now ≡ self.now.written }
     {
         self.bytes.as_slice()
     }
 
+    /// The bytes that it was given.
     pub fn into_bytes(self) -> Vec<u8>
         ensures { result.items ≡ self.written }
     {
@@ -121,13 +127,12 @@ impl Sink for MemSink {
 
     fn write_all(&mut self, bytes: &[u8]) -> Result<(), SinkError>
         ensures bytes { WritesAll (Some self.old.written) (Some self.new.written) result bytes.now }
-        ensures cause { HasCause self.old.failing.faults self.new.failing.faults (result ≡ Err SinkError.Failed) }
+        ensures cause { HasCause self.old.failing.faults self.new.failing.faults (SinkFailed result) }
         ensures counts { self.new.failing ≡ after_call self.old.failing }
-        ensures fails { OnTrue (fails_next self.old.failing)
-            ((result ≡ Err SinkError.Failed) × (self.new.written ≡ self.old.written)) }
-        ensures writes { OnFalse (fails_next self.old.failing) (MatchResult result
-            (λ _. self.new.written ≡ self.old.written ++ bytes.now)
-            (λ e. (e ≡ SinkError.Memory) × (self.new.written ≡ self.old.written))) }
+        ensures fails { OnTrue (fails_next self.old.failing) (SinkFailed result) }
+        ensures memory { OnFalse (fails_next self.old.failing) (IfErr result (λ e. e ≡ SinkError.Memory)) }
+        ensures ok { OnOk result (self.new.written ≡ self.old.written ++ bytes.now) }
+        ensures err { OnErr result (self.new.written ≡ self.old.written) }
     {
         if self.failing.fails_now() {
             return Err(SinkError::Failed);
@@ -138,9 +143,9 @@ impl Sink for MemSink {
 
     fn flush(&mut self) -> Result<(), SinkError>
         ensures bytes { Keeps (Some self.old.written) (Some self.new.written) }
-        ensures cause { HasCause self.old.failing.faults self.new.failing.faults (result ≡ Err SinkError.Failed) }
+        ensures cause { HasCause self.old.failing.faults self.new.failing.faults (SinkFailed result) }
         ensures counts { self.new.failing ≡ after_call self.old.failing }
-        ensures fails { OnTrue (fails_next self.old.failing) (result ≡ Err SinkError.Failed) }
+        ensures fails { OnTrue (fails_next self.old.failing) (SinkFailed result) }
         ensures flushes { OnFalse (fails_next self.old.failing) (IsOk result) }
     {
         if self.failing.fails_now() {

@@ -26,6 +26,7 @@ impl<'a> Model for SliceSource<'a> {
 }
 
 impl<'a> SliceSource<'a> {
+    /// A source of the bytes.
     pub fn new(bytes: &'a [u8]) -> SliceSource<'a>
         ensures left { result.left ≡ bytes.now }
         ensures taken { result.taken ≡ 0 }
@@ -94,6 +95,7 @@ impl<'a> Model for MemSource<'a> {
 }
 
 impl<'a> MemSource<'a> {
+    /// A source of the bytes, and which of its reads shall fail.
     pub fn new(bytes: &'a [u8], fails: Vec<u64>) -> MemSource<'a>
         ensures left { result.left ≡ bytes.now }
         ensures taken { result.taken ≡ 0 }

@@ -21,9 +21,9 @@ pub struct WrapFile {
 impl WrapFile {
     /// Failed where the file's length can't be taken.
     pub fn new(file: File) -> Result<WrapFile, HandleError>
-        ensures faults { IfOk result (λ it. ⟦<WrapFile as FileHandle>⟧.faults it ≡ 0) }
-        ensures reads { IfOk result (λ it. ⟦<WrapFile as FileHandle>⟧.reads it ≡ 0) }
-        ensures fetched { IfOk result (λ it. ⟦<WrapFile as FileHandle>⟧.fetched it ≡ 0) }
+        ensures faults { IfOk result (λ it. (⟦<WrapFile as FileHandle>⟧.state it).faults ≡ 0) }
+        ensures reads { IfOk result (λ it. (⟦<WrapFile as FileHandle>⟧.state it).reads ≡ 0) }
+        ensures fetched { IfOk result (λ it. (⟦<WrapFile as FileHandle>⟧.state it).fetched ≡ 0) }
     {
         match file.metadata() {
             Ok(metadata) => Ok(WrapFile {
@@ -39,14 +39,14 @@ impl WrapFile {
 
     /// How many reads were made, up to the greatest `u64`.
     pub fn reads(&self) -> u64
-        ensures { result ≡ ⟦<WrapFile as FileHandle>⟧.reads self.now }
+        ensures { result ≡ (⟦<WrapFile as FileHandle>⟧.state self.now).reads }
     {
         self.reads
     }
 
     /// How many bytes the reads asked for, up to the greatest `u64`.
     pub fn fetched(&self) -> u64
-        ensures { result ≡ ⟦<WrapFile as FileHandle>⟧.fetched self.now }
+        ensures { result ≡ (⟦<WrapFile as FileHandle>⟧.state self.now).fetched }
     {
         self.fetched
     }
@@ -80,15 +80,11 @@ fn fill_at(file: &File, buf: &mut [u8], offset: usize) -> bool
 }
 
 impl FileHandle for WrapFile {
-    ghost use Rattle.std.specs.Prelude.{None};
+    ghost use Rattle.std.specs.Prelude.{None, refl};
 
-    ghost contents = { λ _. None };
+    ghost state = { λ it. record { contents = None; size = it.len; faults = it.faults; reads = it.reads; fetched = it.fetched } };
 
-    ghost faults = { λ it. it.faults };
-
-    ghost reads = { λ it. it.reads };
-
-    ghost fetched = { λ it. it.fetched };
+    ghost size_is = { λ _. refl };
 
     ghost contents_len = { λ _. tt };
 

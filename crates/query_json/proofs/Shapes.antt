@@ -6,7 +6,7 @@ use Rattle.std.specs.Prelude.{codes}
 use Rattle.std.specs.Fmt.{decimal}
 use Rattle.json.specs.Print.{quoted, escape_byte}
 use Rattle.query_tree.specs.declared.tree.Occur.{Occur}
-use Rattle.query_tree.specs.declared.tree.Decimal.{Decimal}
+use Rattle.query_tree.specs.Decimals.{Digits}
 use Rattle.query_tree.specs.declared.tree.UserInputBound.TheVariants as bound
 use Rattle.query_tree.specs.declared.tree.UserInputBound.{UserInputBound}
 use Rattle.query_tree.specs.declared.tree.UserInputLiteral.{UserInputLiteral}
@@ -136,7 +136,7 @@ clause_written t pairs old a b d h ha hb hd =
     (sym (map-map (λ (p : Option Occur × List ℕ). array (mark_json p.0 ∷ p.1 ∷ [])) (λ (p : Option Occur × UserInputAst). (p.0, json_text p.1)) pairs))
     ∙ ap (λ x. old ++ x) (sym (ap json_text h ∙ json-Clause pairs))
 
-pub boost_written : (t u v : UserInputAst) (n : Decimal) (old a b c d e : List ℕ) → t ≡ tree.Boost u n → v ≡ u → a ≡ old ++ codes "{\"type\":\"boost\",\"underlying\":"
+pub boost_written : (t u v : UserInputAst) (n : Digits) (old a b c d e : List ℕ) → t ≡ tree.Boost u n → v ≡ u → a ≡ old ++ codes "{\"type\":\"boost\",\"underlying\":"
     → b ≡ a ++ json_text v → c ≡ b ++ codes ",\"boost\":" → d ≡ c ++ number_json n.whole n.fraction → e ≡ d ++ codes "}" → e ≡ old ++ json_text t
 boost_written t u v n old a b c d e h hv ha hb hc hd he =
     he ∙ ap (λ x. x ++ codes "}") (hd ∙ ap (λ x. x ++ number_json n.whole n.fraction) (hc ∙ ap (λ x. x ++ codes ",\"boost\":") (hb ∙ ap (λ x. x ++ json_text v) ha)))

@@ -1,5 +1,4 @@
-//! The JSON of leaves, behind what was written before.
-
+// The JSON of leaves, behind what was written before.
 ghost use Rattle.std.specs.Prelude.{◌≡◌, ◌++◌, codes, map, OnOk};
 ghost use Rattle.query_tree.specs.declared.tree.UserInputLeaf.TheVariants.{Range, Set, Exists, Regex};
 ghost use Rattle.json.specs.Print.{quoted};
@@ -13,7 +12,7 @@ use owned_bytes::Text;
 use query_tree::{UserInputBound, UserInputLeaf, UserInputLiteral};
 use std::alloc::{AllocError, Global};
 
-/// A bound that has a text, with what stands before its value.
+// A bound that has a text, with what stands before its value.
 fn push_value(alloc: Global, out: &mut Text, before: &str, text: &Text) -> Result<(), AllocError>
     ensures { OnOk result (out.new ≡ ((out.old ++ before.now) ++ quoted text.now) ++ codes "}") }
 {
@@ -36,7 +35,7 @@ fn push_bound(alloc: Global, out: &mut Text, bound: &UserInputBound) -> Result<(
     }
 }
 
-/// What stands behind the phrase of a literal.
+// What stands behind the phrase of a literal.
 fn push_literal_end(
     alloc: Global,
     out: &mut Text,
@@ -134,6 +133,7 @@ fn push_exists(alloc: Global, out: &mut Text, field: &Text) -> Result<(), AllocE
 }
 
 #[tactic(auto, unfolding(query_tree::specs::Json::leaf_json))]
+/// Writes the JSON of a leaf.
 pub fn push_leaf(alloc: Global, out: &mut Text, leaf: &UserInputLeaf) -> Result<(), AllocError>
     ensures { OnOk result (out.new ≡ out.old ++ spec.leaf_json leaf.now) }
 {

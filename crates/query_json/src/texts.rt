@@ -1,5 +1,4 @@
-//! The JSON of texts, and of what is nearly a text, behind what was written before.
-
+// The JSON of texts, and of what is nearly a text, behind what was written before.
 ghost use Rattle.std.specs.Prelude.{◌≡◌, ◌++◌, string_bytes, IfOk, OnOk};
 ghost use Rattle.std.specs.Fmt.{decimal};
 ghost use Rattle.json.specs.Print.{quoted as quoted_by};
@@ -11,7 +10,7 @@ use query_tree::{Decimal, Delimiter, Occur};
 use serde_json::Value;
 use std::alloc::{AllocError, Global};
 
-/// The text in quotes, as `serde_json` writes it.
+// The text in quotes, as `serde_json` writes it.
 fn quoted(alloc: Global, text: &str) -> Result<String, AllocError>
     ensures { IfOk result (λ s. string_bytes s ≡ quoted_by text.now) }
 {
@@ -19,6 +18,7 @@ fn quoted(alloc: Global, text: &str) -> Result<String, AllocError>
     value.to_string(alloc)
 }
 
+/// Writes a text in quotes, with its escapes.
 pub fn push_quoted(alloc: Global, out: &mut Text, text: &str) -> Result<(), AllocError>
     ensures { OnOk result (out.new ≡ out.old ++ quoted_by text.now) }
 {
@@ -50,6 +50,7 @@ pub fn push_field(
     }
 }
 
+/// What stands round a phrase, as a word in quotes.
 pub fn delimiter_word(delimiter: Delimiter) -> &'static str
     ensures { result.now ≡ spec.delimiter_json delimiter }
 {
@@ -60,6 +61,7 @@ pub fn delimiter_word(delimiter: Delimiter) -> &'static str
     }
 }
 
+/// `true` or `false`.
 pub fn bool_word(value: bool) -> &'static str
     ensures { result.now ≡ spec.bool_json value }
 {
@@ -72,6 +74,7 @@ fn number_text(alloc: Global, number: u32) -> Result<String, AllocError>
     number.to_string(alloc)
 }
 
+/// Writes a whole number in decimal.
 pub fn push_number(alloc: Global, out: &mut Text, number: u32) -> Result<(), AllocError>
     ensures { OnOk result (out.new ≡ out.old ++ decimal number) }
 {
@@ -79,6 +82,7 @@ pub fn push_number(alloc: Global, out: &mut Text, number: u32) -> Result<(), All
     out.push_str(digits.as_str())
 }
 
+/// Writes a mark as a word in quotes, or `null`.
 pub fn push_mark(out: &mut Text, mark: Option<Occur>) -> Result<(), AllocError>
     ensures { OnOk result (out.new ≡ out.old ++ spec.mark_json mark) }
 {
@@ -94,12 +98,12 @@ pub fn push_mark(out: &mut Text, mark: Option<Occur>) -> Result<(), AllocError>
 pub fn push_decimal(out: &mut Text, number: &Decimal) -> Result<(), AllocError>
     ensures { OnOk result (out.new ≡ out.old ++ spec.number_json number.now.whole number.now.fraction) }
 {
-    out.push_str(number.whole.as_str())?;
+    out.push_str(number.whole())?;
     out.push_str(".")?;
-    if number.fraction.as_str().is_empty() {
+    if number.fraction().is_empty() {
         out.push_str("0")
     } else {
-        out.push_str(number.fraction.as_str())
+        out.push_str(number.fraction())
     }
 }
 

@@ -1,5 +1,4 @@
-//! The JSON of trees.
-
+// The JSON of trees.
 ghost use Rattle.std.specs.Prelude.{◌≡◌, ◌++◌, map, IfOk, OnOk};
 ghost use Rattle.query_tree.specs.Json as spec;
 ghost use Rattle.query_json.specs.Pieces.{pair_json};

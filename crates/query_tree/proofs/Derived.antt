@@ -10,7 +10,7 @@ use Rattle.query_tree.specs.declared.tree.Occur.{Occur}
 use Rattle.query_tree.specs.declared.tree.Occur.TheVariants as occur
 use Rattle.query_tree.specs.declared.tree.Delimiter.{Delimiter}
 use Rattle.query_tree.specs.declared.tree.Delimiter.TheVariants as delimiter
-use Rattle.query_tree.specs.declared.tree.Decimal.{Decimal}
+use Rattle.query_tree.specs.Decimals.{Digits}
 use Rattle.query_tree.specs.declared.tree.UserInputLiteral.{UserInputLiteral}
 use Rattle.query_tree.specs.declared.tree.UserInputBound.{UserInputBound}
 use Rattle.query_tree.specs.declared.tree.UserInputBound.TheVariants as bound
@@ -21,7 +21,7 @@ use Rattle.query_tree.specs.declared.tree.UserInputAst.TheVariants as tree
 use Rattle.query_tree.specs.declared.tree.UserInputAst.TheVariants.{outs-Leaf, outs-Clause, outs-Boost}
 use Rattle.query_tree.specs.contracts.tree.OccurPartialEq.TheImpl as occurs
 use Rattle.query_tree.specs.contracts.tree.DelimiterPartialEq.TheImpl as delimiters
-use Rattle.query_tree.specs.contracts.tree.DecimalPartialEq.TheImpl as decimals
+use Rattle.query_tree.specs.contracts.decimal.DecimalPartialEq.TheImpl as decimals
 use Rattle.query_tree.specs.contracts.tree.UserInputLiteralPartialEq.TheImpl as literals
 use Rattle.query_tree.specs.contracts.tree.UserInputBoundPartialEq.TheImpl as bounds
 use Rattle.query_tree.specs.contracts.tree.UserInputLeafPartialEq.TheImpl as leaves
@@ -115,10 +115,10 @@ leaf_reads (leaf.Regex f a) (leaf.Regex g b) h =
     ap (λ x. leaf.Regex x a) (field_reads f g parts.0) ∙ ap (λ x. leaf.Regex g x) (text_reads a b parts.1)
 leaf_reads a b h = cc
 
-pub decimal_reads : (a b : Decimal) → decimals.ghosts.eq a b ≡ true → a ≡ b
+pub decimal_reads : (a b : Digits) → decimals.ghosts.eq a b ≡ true → a ≡ b
 decimal_reads a b h =
     let parts = and_parts (pointwise (λ x y. x == y) a.whole b.whole) (pointwise (λ x y. x == y) a.fraction b.fraction) h in
-    let from : List ℕ → List ℕ → Decimal = λ w f. record { whole = w; fraction = f } in
+    let from : List ℕ → List ℕ → Digits = λ w f. record { whole = w; fraction = f } in
     ap (λ w. from w a.fraction) (text_reads a.whole b.whole parts.0) ∙ ap (λ f. from b.whole f) (text_reads a.fraction b.fraction parts.1)
 
 -- ---- each pair of variants
@@ -132,22 +132,22 @@ leaf_leaf a b = laws.is (tree.Leaf a) (tree.Leaf b) ∙ simp outs-Leaf
 leaf_clause : (a : UserInputLeaf) (b : List (Option Occur × UserInputAst)) → trees.ghosts.eq (tree.Leaf a) (tree.Clause b) ≡ false
 leaf_clause a b = laws.is (tree.Leaf a) (tree.Clause b) ∙ simp (outs-Leaf, outs-Clause)
 
-leaf_boost : (a : UserInputLeaf) (b : UserInputAst) (n : Decimal) → trees.ghosts.eq (tree.Leaf a) (tree.Boost b n) ≡ false
+leaf_boost : (a : UserInputLeaf) (b : UserInputAst) (n : Digits) → trees.ghosts.eq (tree.Leaf a) (tree.Boost b n) ≡ false
 leaf_boost a b n = laws.is (tree.Leaf a) (tree.Boost b n) ∙ simp (outs-Leaf, outs-Boost)
 
 clause_leaf : (a : List (Option Occur × UserInputAst)) (b : UserInputLeaf) → trees.ghosts.eq (tree.Clause a) (tree.Leaf b) ≡ false
 clause_leaf a b = laws.is (tree.Clause a) (tree.Leaf b) ∙ simp (outs-Leaf, outs-Clause)
 
-clause_boost : (a : List (Option Occur × UserInputAst)) (b : UserInputAst) (n : Decimal) → trees.ghosts.eq (tree.Clause a) (tree.Boost b n) ≡ false
+clause_boost : (a : List (Option Occur × UserInputAst)) (b : UserInputAst) (n : Digits) → trees.ghosts.eq (tree.Clause a) (tree.Boost b n) ≡ false
 clause_boost a b n = laws.is (tree.Clause a) (tree.Boost b n) ∙ simp (outs-Clause, outs-Boost)
 
-boost_leaf : (a : UserInputAst) (n : Decimal) (b : UserInputLeaf) → trees.ghosts.eq (tree.Boost a n) (tree.Leaf b) ≡ false
+boost_leaf : (a : UserInputAst) (n : Digits) (b : UserInputLeaf) → trees.ghosts.eq (tree.Boost a n) (tree.Leaf b) ≡ false
 boost_leaf a n b = laws.is (tree.Boost a n) (tree.Leaf b) ∙ simp (outs-Leaf, outs-Boost)
 
-boost_clause : (a : UserInputAst) (n : Decimal) (b : List (Option Occur × UserInputAst)) → trees.ghosts.eq (tree.Boost a n) (tree.Clause b) ≡ false
+boost_clause : (a : UserInputAst) (n : Digits) (b : List (Option Occur × UserInputAst)) → trees.ghosts.eq (tree.Boost a n) (tree.Clause b) ≡ false
 boost_clause a n b = laws.is (tree.Boost a n) (tree.Clause b) ∙ simp (outs-Clause, outs-Boost)
 
-pub boost_boost : (a b : UserInputAst) (n m : Decimal) → trees.ghosts.eq (tree.Boost a n) (tree.Boost b m) ≡ trees.ghosts.eq a b && decimals.ghosts.eq n m
+pub boost_boost : (a b : UserInputAst) (n m : Digits) → trees.ghosts.eq (tree.Boost a n) (tree.Boost b m) ≡ trees.ghosts.eq a b && decimals.ghosts.eq n m
 boost_boost a b n m = laws.is (tree.Boost a n) (tree.Boost b m) ∙ simp outs-Boost
 
 abbrev pub pair_eq : Option Occur × UserInputAst → Option Occur × UserInputAst → Bool

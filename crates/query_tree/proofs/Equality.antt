@@ -9,7 +9,7 @@ use Rattle.query_tree.specs.declared.tree.Occur.{Occur}
 use Rattle.query_tree.specs.declared.tree.Occur.TheVariants as occur
 use Rattle.query_tree.specs.declared.tree.Delimiter.{Delimiter}
 use Rattle.query_tree.specs.declared.tree.Delimiter.TheVariants as delimiter
-use Rattle.query_tree.specs.declared.tree.Decimal.{Decimal}
+use Rattle.query_tree.specs.Decimals.{Digits}
 use Rattle.query_tree.specs.declared.tree.UserInputLiteral.{UserInputLiteral}
 use Rattle.query_tree.specs.declared.tree.UserInputBound.{UserInputBound}
 use Rattle.query_tree.specs.declared.tree.UserInputBound.TheVariants.{Inclusive, Exclusive, Unbounded}
@@ -141,13 +141,13 @@ leaf_self (leaf.Set f a) = and_from _ _ (field_self f) (texts_self a)
 leaf_self (leaf.Exists f) = text_self f
 leaf_self (leaf.Regex f a) = and_from _ _ (field_self f) (text_self a)
 
-decimal_is : (a b : Decimal) → same_decimal a b ≡ true → a ≡ b
+decimal_is : (a b : Digits) → same_decimal a b ≡ true → a ≡ b
 decimal_is a b h =
     let parts = and_parts (bytes_eq a.whole b.whole) (bytes_eq a.fraction b.fraction) h in
-    let from : List ℕ → List ℕ → Decimal = λ w f. record { whole = w; fraction = f } in
+    let from : List ℕ → List ℕ → Digits = λ w f. record { whole = w; fraction = f } in
     ap (λ w. from w a.fraction) (text_is a.whole b.whole parts.0) ∙ ap (λ f. from b.whole f) (text_is a.fraction b.fraction parts.1)
 
-decimal_self : (a : Decimal) → same_decimal a a ≡ true
+decimal_self : (a : Digits) → same_decimal a a ≡ true
 decimal_self a = and_from _ _ (text_self a.whole) (text_self a.fraction)
 
 mutual

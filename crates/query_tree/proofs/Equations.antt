@@ -3,7 +3,7 @@ use Rattle.std.proofs.Common.{◌≡◌, ◌∙◌, sym, ap, ℕ, List, map, len
 use Rattle.std.proofs.lemmas.List.{take_all}
 use Rattle.std.proofs.lemmas.Simd.{map-map}
 use Rattle.query_tree.specs.declared.tree.Occur.{Occur}
-use Rattle.query_tree.specs.declared.tree.Decimal.{Decimal}
+use Rattle.query_tree.specs.Decimals.{Digits}
 use Rattle.query_tree.specs.declared.tree.UserInputLeaf.{UserInputLeaf}
 use Rattle.query_tree.specs.declared.tree.UserInputAst.{UserInputAst, fold-roll-UserInputAst, para-roll-UserInputAst}
 use Rattle.query_tree.specs.declared.tree.UserInputAst.TheVariants as tree
@@ -27,20 +27,13 @@ pub rewritten-Leaf : (l : UserInputLeaf) → rewritten (tree.Leaf l) ≡ tree.Le
 unfolding rewritten
 rewritten-Leaf l = ap rewritten (sym (rolls-Leaf l)) ∙ para-roll-UserInputAst _ _ (Leaf l)
 
-pub rewritten-Boost : (t : UserInputAst) (d : Decimal) → rewritten (tree.Boost t d) ≡ tree.Boost t d
+pub rewritten-Boost : (t : UserInputAst) (d : Digits) → rewritten (tree.Boost t d) ≡ tree.Boost t d
 unfolding rewritten
 rewritten-Boost t d = ap rewritten (sym (rolls-Boost t d)) ∙ para-roll-UserInputAst _ _ (Boost t d)
 
-pub under_field-Boost : (field : List ℕ) (inner : UserInputAst) (d : Decimal) → under_field field (tree.Boost inner d) ≡ tree.Boost (under_field field inner) d
+pub under_field-Boost : (field : List ℕ) (inner : UserInputAst) (d : Digits) → under_field field (tree.Boost inner d) ≡ tree.Boost (under_field field inner) d
 unfolding under_field
 under_field-Boost field inner d = ap (under_field field) (sym (rolls-Boost inner d)) ∙ fold-roll-UserInputAst _ _ (Boost inner d)
-
--- all of a clause's pairs, one after another
-pub clause_under_field : (field : List ℕ) (t : UserInputAst) (pairs items done : List (Option Occur × UserInputAst)) (i : ℕ) → t ≡ tree.Clause pairs → items ≡ pairs → length items ≤ i
-    → done ≡ map (λ p. (p.0, under_field field p.1)) (take i items) → tree.Clause done ≡ under_field field t
-clause_under_field field t pairs items done i whole same all each =
-    let e : done ≡ map (λ p. (p.0, under_field field p.1)) pairs = each ∙ ap (map (λ p. (p.0, under_field field p.1))) (take_all i items all ∙ same) in
-    ap tree.Clause e ∙ sym (ap (under_field field) whole ∙ under_field-Clause field pairs)
 
 pub ruleset trees_rewritten = (rewritten-Leaf, rewritten-Clause, rewritten-Boost)
 
@@ -53,9 +46,3 @@ unfolding same_tree
 same_tree-Leaf a b =
     ap (λ f. f (tree.Leaf b)) (ap same_tree (sym (rolls-Leaf a)) ∙ fold-roll-UserInputAst _ _ (Leaf a))
     ∙ ap (same_layer (Leaf a)) (outs-Leaf b)
-
-pub same_tree-leaf_clause : (a : UserInputLeaf) (pairs : List (Option Occur × UserInputAst)) → same_tree (tree.Leaf a) (tree.Clause pairs) ≡ false
-unfolding same_tree
-same_tree-leaf_clause a pairs =
-    ap (λ f. f (tree.Clause pairs)) (ap same_tree (sym (rolls-Leaf a)) ∙ fold-roll-UserInputAst _ _ (Leaf a))
-    ∙ ap (same_layer (Leaf a)) (outs-Clause pairs)

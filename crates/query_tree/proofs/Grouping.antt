@@ -63,7 +63,3 @@ several_items first (x ∷ others) held pair group lt h p g =
     let whole : group ≡ pair ∷ (grouped (x ∷ others)).joining = group_is group held.joining.items (grouped (x ∷ others)).joining pair h.joining g in
     closed_is group held.pairs.items (grouped (x ∷ others)).groups h.pairs
     ∙ ap (λ y. tree_of_groups (y ∷ (grouped (x ∷ others)).groups)) (whole ∙ ap (λ q. q ∷ (grouped (x ∷ others)).joining) p)
-
-pub lone_is : (first : Item) (others : List Item) → others ≡ [] → lone first.mark first.tree ≡ aggregated first others
-unfolding aggregated
-lone_is first others h = sym (ap (aggregated first) h)

@@ -6,6 +6,7 @@ pub mod Computes
 pub mod Equality
 pub mod Digits
 pub mod Grouping
+pub mod LeftGroups
 pub mod Derived
 pub mod Repeats
 pub mod Joining

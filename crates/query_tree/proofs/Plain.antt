@@ -2,7 +2,7 @@
 use Rattle.std.proofs.Common.{◌≡◌, ◌∙◌, sym, ap, refl, ℕ, Bool, true, false, not, ◌&&◌, List, [], ◌∷◌, map, filter, Option, Some, None}
 use Rattle.std.specs.Prelude.{if◌then◌else◌}
 use Rattle.query_tree.specs.declared.tree.Occur.{Occur}
-use Rattle.query_tree.specs.declared.tree.Decimal.{Decimal}
+use Rattle.query_tree.specs.Decimals.{Digits}
 use Rattle.query_tree.specs.declared.tree.UserInputLeaf.{UserInputLeaf}
 use Rattle.query_tree.specs.declared.tree.UserInputAst.{UserInputAst, fold-roll-UserInputAst, out-UserInputAst}
 use Rattle.query_tree.specs.declared.tree.UserInputAst.TheVariants as tree
@@ -16,7 +16,7 @@ use Rattle.query_tree.proofs.Equations.{under_field-Clause, under_field-Boost, u
 mutual
   pub data Plain : Type 0 where
     clause : Plains → Plain
-    boost : Plain → Decimal → Plain
+    boost : Plain → Digits → Plain
     leaf : UserInputLeaf → Plain
 
   pub data Plains : Type 0 where
@@ -84,7 +84,7 @@ pub debug-Clause : (pairs : List (Option Occur × UserInputAst)) → debug_text 
 unfolding debug_text
 debug-Clause pairs = ap debug_text (sym (rolls-Clause pairs)) ∙ fold-roll-UserInputAst _ _ (layer.Clause pairs)
 
-pub debug-Boost : (t : UserInputAst) (d : Decimal) → debug_text (tree.Boost t d) ≡ layer_text (layer.Boost (debug_text t) d)
+pub debug-Boost : (t : UserInputAst) (d : Digits) → debug_text (tree.Boost t d) ≡ layer_text (layer.Boost (debug_text t) d)
 unfolding debug_text
 debug-Boost t d = ap debug_text (sym (rolls-Boost t d)) ∙ fold-roll-UserInputAst _ _ (layer.Boost t d)
 
@@ -98,7 +98,7 @@ pub json-Clause : (pairs : List (Option Occur × UserInputAst)) → json_text (t
 unfolding json_text
 json-Clause pairs = ap json_text (sym (rolls-Clause pairs)) ∙ fold-roll-UserInputAst _ _ (layer.Clause pairs)
 
-pub json-Boost : (t : UserInputAst) (d : Decimal) → json_text (tree.Boost t d) ≡ layer_json (layer.Boost (json_text t) d)
+pub json-Boost : (t : UserInputAst) (d : Digits) → json_text (tree.Boost t d) ≡ layer_json (layer.Boost (json_text t) d)
 unfolding json_text
 json-Boost t d = ap json_text (sym (rolls-Boost t d)) ∙ fold-roll-UserInputAst _ _ (layer.Boost t d)
 
@@ -147,7 +147,7 @@ same_tree-Clause : (pairs : List (Option Occur × UserInputAst)) (t : UserInputA
 unfolding same_tree
 same_tree-Clause pairs t = ap (λ f. f t) (ap same_tree (sym (rolls-Clause pairs)) ∙ fold-roll-UserInputAst _ _ (layer.Clause pairs))
 
-same_tree-Boost : (inner : UserInputAst) (d : Decimal) (t : UserInputAst) → same_tree (tree.Boost inner d) t ≡ same_layer (layer.Boost (same_tree inner) d) (out-UserInputAst t)
+same_tree-Boost : (inner : UserInputAst) (d : Digits) (t : UserInputAst) → same_tree (tree.Boost inner d) t ≡ same_layer (layer.Boost (same_tree inner) d) (out-UserInputAst t)
 unfolding same_tree
 same_tree-Boost inner d t = ap (λ f. f t) (ap same_tree (sym (rolls-Boost inner d)) ∙ fold-roll-UserInputAst _ _ (layer.Boost inner d))
 

@@ -5,7 +5,7 @@ use Rattle.std.proofs.lemmas.Bool.{false≢true}
 use Rattle.std.specs.List.{join_with_byte}
 use Rattle.std.proofs.lemmas.Simd.{map-map}
 use Rattle.query_tree.specs.declared.tree.Occur.{Occur}
-use Rattle.query_tree.specs.declared.tree.Decimal.{Decimal}
+use Rattle.query_tree.specs.Decimals.{Digits}
 use Rattle.query_tree.specs.declared.tree.UserInputLeaf.{UserInputLeaf}
 use Rattle.query_tree.specs.declared.tree.UserInputAst.{UserInputAst}
 use Rattle.query_tree.specs.declared.tree.UserInputAst.TheVariants as tree
@@ -22,7 +22,7 @@ clause_shown t (p ∷ ps) h lt =
     ap (λ texts. (codes "(" ++ join_with_byte 32 texts) ++ codes ")") (sym (map-map pair_text shown_pair (p ∷ ps)))
     ∙ sym (ap debug_text h ∙ debug-Clause (p ∷ ps))
 
-pub boost_shown : (t u v : UserInputAst) (d : Decimal) → t ≡ tree.Boost u d → v ≡ u
+pub boost_shown : (t u v : UserInputAst) (d : Digits) → t ≡ tree.Boost u d → v ≡ u
     → ((codes "(" ++ debug_text v) ++ codes ")^") ++ decimal_text d.whole d.fraction ≡ debug_text t
 boost_shown t u v d h e =
     ap (λ x. ((codes "(" ++ debug_text x) ++ codes ")^") ++ decimal_text d.whole d.fraction) e

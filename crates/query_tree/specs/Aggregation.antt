@@ -1,5 +1,5 @@
 -- One tree of a list of items.
--- The items are taken from the right, so that each item's pair is put in front of what the later items gave: the same groups as taking them from the left, one at a time, into the last group.
+-- The items are taken from the right: each item's pair is put in front of what the later items gave. `FromTheLeft` has the same from the left.
 use Rattle.std.specs.Prelude.{List, [], ◌∷◌, map, Option, Some, None}
 use Rattle.query_tree.specs.declared.tree.Occur.{Occur}
 use Rattle.query_tree.specs.declared.tree.Occur.TheVariants.{Should, Must, MustNot}

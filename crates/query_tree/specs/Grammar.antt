@@ -1,5 +1,5 @@
 -- The names of the grammar, from the smallest up to a whole query.
-use Rattle.std.specs.Prelude.{ℕ, zero, suc, ◌+◌, ◌-◌, ◌*◌, ◌^◌, Bool, true, false, ◌&&◌, ◌==◌, nat_lt, if◌then◌else◌, List, [], ◌∷◌, ◌++◌, length, fold, reverse, Option, Some, None, codes, encode_utf8}
+use Rattle.std.specs.Prelude.{ℕ, zero, suc, ◌+◌, ◌-◌, ◌*◌, ◌^◌, Bool, true, false, ◌&&◌, ◌==◌, nat_lt, if◌then◌else◌, List, [], ◌∷◌, ◌++◌, length, fold, Option, Some, None, codes, encode_utf8}
 use Rattle.std.specs.Char.{is_ascii_digit}
 use Rattle.std.specs.List.{list_any}
 use Rattle.std.specs.Str.{bytes_eq}
@@ -7,7 +7,6 @@ use Rattle.query_tree.specs.declared.tree.Occur.{Occur}
 use Rattle.query_tree.specs.declared.tree.Occur.TheVariants as occur
 use Rattle.query_tree.specs.declared.tree.Delimiter.{Delimiter}
 use Rattle.query_tree.specs.declared.tree.Delimiter.TheVariants as delimiter
-use Rattle.query_tree.specs.declared.tree.Decimal.{Decimal}
 use Rattle.query_tree.specs.declared.tree.UserInputBound.{UserInputBound}
 use Rattle.query_tree.specs.declared.tree.UserInputBound.TheVariants.{Inclusive, Exclusive, Unbounded}
 use Rattle.query_tree.specs.declared.tree.UserInputLeaf.{UserInputLeaf}
@@ -19,6 +18,7 @@ use Rattle.query_tree.specs.declared.item.Operand.TheVariants.{And, Or}
 use Rattle.query_tree.specs.declared.item.Item.{Item}
 use Rattle.query_tree.specs.Characters.{minus, plus, dot, star, slash, colon, caret, tilde, backslash, single_quote, double_quote, backquote, opening, closing, open_square, close_square, open_brace, close_brace, is_any, is_other_than, is_space, is_special, is_after_star, is_after_regex, is_field_character, is_word_character, is_bound_character, is_unescaped_in_word}
 use Rattle.query_tree.specs.Reader.{Found, Deep, skip, Reader, ◌>>=◌, ◌>>◌, ◌<$>◌, ◌or◌, pure, fail, optional, one, taken, char, tag, end, before, repeated, joined, listed_after}
+use Rattle.query_tree.specs.Decimals.{Digits, trimmed_decimal}
 use Rattle.query_tree.specs.Aggregation.{negated, aggregated}
 use Rattle.query_tree.specs.Rewriting.{with_field, under_field}
 
@@ -285,37 +285,18 @@ plain_leaf = do
   found ← bare_leaf
   pure (with_field name found)
 
-abbrev pub trimmed_front : List ℕ → List ℕ
-trimmed_front [] = []
-trimmed_front (d ∷ ds) = if d == 48 then trimmed_front ds else d ∷ ds
-
-abbrev pub at_least_zero : List ℕ → List ℕ
-at_least_zero [] = 48 ∷ []
-at_least_zero (d ∷ ds) = d ∷ ds
-
-abbrev pub trimmed_back : List ℕ → List ℕ
-trimmed_back digits = reverse (trimmed_front (reverse digits))
-
-abbrev pub trimmed_fraction : Option (List ℕ) → List ℕ
-trimmed_fraction None = []
-trimmed_fraction (Some digits) = trimmed_back digits
-
--- without zeros in front of the whole part and behind the fraction
-unfoldable pub trimmed_decimal : List ℕ → Option (List ℕ) → Decimal
-trimmed_decimal whole after_dot = record { whole = at_least_zero (trimmed_front whole); fraction = trimmed_fraction after_dot }
-
-unfoldable pub boost : Reader Decimal
+unfoldable pub boost : Reader Digits
 boost = do
   char caret
   whole ← digits
   after_dot ← fraction
   pure (trimmed_decimal whole after_dot)
 
-abbrev pub is_one : Decimal → Bool
+abbrev pub is_one : Digits → Bool
 is_one d = bytes_eq d.whole (codes "1") && length d.fraction == 0
 
 -- a boost of 1 is dropped
-unfoldable pub boosted : UserInputAst → Option Decimal → UserInputAst
+unfoldable pub boosted : UserInputAst → Option Digits → UserInputAst
 boosted tree None = tree
 boosted tree (Some d) = if is_one d then tree else Boost tree d
 

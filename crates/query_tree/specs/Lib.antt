@@ -1,7 +1,9 @@
 pub mod Characters
 pub mod Reader
+pub mod Decimals
 pub mod Grammar
 pub mod Aggregation
+pub mod FromTheLeft
 pub mod Rewriting
 pub mod Answer
 pub mod Printing

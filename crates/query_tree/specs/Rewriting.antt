@@ -5,7 +5,7 @@ use Rattle.query_tree.specs.declared.tree.Occur.{Occur}
 use Rattle.query_tree.specs.declared.tree.Occur.TheVariants as occur
 use Rattle.query_tree.specs.declared.tree.Delimiter.{Delimiter}
 use Rattle.query_tree.specs.declared.tree.Delimiter.TheVariants as delimiter
-use Rattle.query_tree.specs.declared.tree.Decimal.{Decimal}
+use Rattle.query_tree.specs.Decimals.{Digits}
 use Rattle.query_tree.specs.declared.tree.UserInputLiteral.{UserInputLiteral}
 use Rattle.query_tree.specs.declared.tree.UserInputBound.{UserInputBound}
 use Rattle.query_tree.specs.declared.tree.UserInputBound.TheVariants.{Inclusive, Exclusive, Unbounded}
@@ -89,7 +89,7 @@ same_leaf (leaf.Exists f) (leaf.Exists g) = bytes_eq f g
 same_leaf (leaf.Regex f a) (leaf.Regex g b) = same_field f g && bytes_eq a b
 same_leaf _ _ = false
 
-abbrev pub same_decimal : Decimal → Decimal → Bool
+abbrev pub same_decimal : Digits → Digits → Bool
 same_decimal a b = bytes_eq a.whole b.whole && bytes_eq a.fraction b.fraction
 
 abbrev pub Tests : Type 0

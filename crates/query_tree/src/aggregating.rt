@@ -1,9 +1,9 @@
-//! One tree of a list of items.
-
-ghost use Rattle.std.specs.Prelude.{◌≡◌, [], ◌∷◌, ◌++◌, Some, IfOk, OnOk, MatchOption, ◌<◌, length, reverse};
+// One tree of a list of items.
+ghost use Rattle.std.specs.Prelude.{◌≡◌, [], ◌∷◌, ◌++◌, Some, IfOk, OnOk, IfNone, IfSome, ◌<◌, length, reverse};
 ghost use Rattle.query_tree.specs.declared.tree.Occur.TheVariants.{Must};
 ghost use Rattle.query_tree.specs.Aggregation as aggregation;
-ghost use Rattle.query_tree.specs.Groups.{HoldsGroups, clause_of};
+ghost use Rattle.query_tree.specs.FromTheLeft.{AggregatesFromTheLeft};
+ghost use Rattle.query_tree.specs.Groups.{HoldsGroups, Adds, clause_of};
 
 use crate::item::{Item, Operand};
 use crate::tree::{Clauses, Occur, UserInputAst};
@@ -13,7 +13,7 @@ use std::mem;
 
 type Pair = (Option<Occur>, UserInputAst);
 
-/// The default mark of an item that begins a group, by the operands before and after it.
+// The default mark of an item that begins a group, by the operands before and after it.
 #[tactic(auto, unfolding(crate::specs::Aggregation::default_mark))]
 fn default_mark(before: Option<Operand>, after: Option<Operand>) -> Option<Occur>
     ensures { result ≡ aggregation.default_mark before after }
@@ -45,7 +45,7 @@ pub fn negated(alloc: Global, tree: UserInputAst) -> Result<UserInputAst, AllocE
     Ok(UserInputAst::Clause(pairs))
 }
 
-/// The pair of an item that begins a group.
+// The pair of an item that begins a group.
 #[tactic(auto, unfolding(crate::specs::Aggregation::first_pair))]
 fn first_pair(
     alloc: Global,
@@ -73,7 +73,7 @@ fn lone(alloc: Global, mark: Option<Occur>, tree: UserInputAst) -> Result<UserIn
     }
 }
 
-/// The pair that a group gives.
+// The pair that a group gives.
 #[tactic(auto, unfolding(crate::specs::Aggregation::pair_of_group))]
 fn pair_of_group(mut group: Vec<Pair>) -> Pair
     ensures { result ≡ aggregation.pair_of_group group.items }
@@ -108,7 +108,7 @@ impl Groups {
         }
     }
 
-    /// The group of this pair and of those that join it.
+    // The group of this pair and of those that join it.
     fn group_of(&mut self, alloc: Global, pair: Pair) -> Result<Vec<Pair>, AllocError>
         ensures group { IfOk result (λ group. reverse group.items ≡ self.old.joining.items ++ pair ∷ []) }
         ensures joining { OnOk result (self.new.joining.items ≡ []) }
@@ -120,9 +120,9 @@ impl Groups {
         Ok(group)
     }
 
-    /// An item in front of the later ones begins a group.
+    // An item in front of the later ones begins a group.
     fn begin(&mut self, alloc: Global, item: Item, after: Option<Operand>) -> Result<(), AllocError>
-        ensures { (later : aggregation.Grouped) → HoldsGroups self.old later → OnOk result (HoldsGroups self.new (aggregation.beginning item after later)) }
+        ensures { Adds (aggregation.beginning item after) self.old self.new result }
     {
         let default = default_mark(item.operand, after);
         let pair = first_pair(alloc, item.mark, default, item.tree)?;
@@ -131,9 +131,9 @@ impl Groups {
         Ok(())
     }
 
-    /// An item in front of the later ones.
+    // An item in front of the later ones.
     fn add(&mut self, alloc: Global, item: Item, after: Option<Operand>) -> Result<(), AllocError>
-        ensures { (later : aggregation.Grouped) → HoldsGroups self.old later → OnOk result (HoldsGroups self.new (aggregation.grouped_by item.operand item after later)) }
+        ensures { Adds (aggregation.grouped_by item.operand item after) self.old self.new result }
     {
         match item.operand {
             Some(Operand::And) => {
@@ -146,7 +146,7 @@ impl Groups {
     }
 }
 
-/// The groups of these items, behind the first one.
+// The groups of these items, behind the first one.
 fn groups_of(alloc: Global, items: Items<Item>) -> Result<Groups, AllocError>
     ensures { IfOk result (λ held. HoldsGroups held (aggregation.grouped items)) }
 {
@@ -160,7 +160,7 @@ fn groups_of(alloc: Global, items: Items<Item>) -> Result<Groups, AllocError>
     Ok(groups)
 }
 
-/// The clause of the first group and of the pairs of the later ones, last first.
+// The clause of the first group and of the pairs of the later ones, last first.
 fn clause_of(group: Vec<Pair>, later: Vec<Pair>) -> Result<UserInputAst, AllocError>
     ensures { IfOk result (λ t. t ≡ clause_of group.items later.items) }
 {
@@ -173,7 +173,7 @@ fn clause_of(group: Vec<Pair>, later: Vec<Pair>) -> Result<UserInputAst, AllocEr
     Ok(UserInputAst::Clause(Items::from_vec(pairs)))
 }
 
-/// One tree of two or more items.
+// One tree of two or more items.
 fn tree_of_items(
     alloc: Global,
     first: Item,
@@ -206,9 +206,17 @@ pub fn aggregated(
     }
 }
 
-/// The operand of the first of these items, if there is one.
+/// A law, with nothing to run. The tree is the one that the items give when they are taken from the left: an item after `AND`
+/// adds its pair to the last group, and every other one begins a group. The code takes them from the right.
+pub fn aggregates_from_the_left()
+    ensures { AggregatesFromTheLeft }
+{}
+
+// The operand of the first of these items, if there is one.
 fn operand_of(items: &[Item]) -> Option<Option<Operand>>
-    ensures { MatchOption result (items.now ≡ []) (λ operand. (operand ≡ aggregation.operand_after items.now) × (0 < length items.now)) }
+    ensures none { IfNone result (items.now ≡ []) }
+    ensures operand { IfSome result (λ operand. operand ≡ aggregation.operand_after items.now) }
+    ensures some { IfSome result (λ _. 0 < length items.now) }
 {
     match items {
         [] => None,

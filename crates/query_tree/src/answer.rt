@@ -1,3 +1,4 @@
+// What a query text comes out as, where it has no tree.
 use std::alloc::AllocError;
 use thiserror::Error as ErrorText;
 

@@ -1,5 +1,4 @@
-//! Marks composed, and trees made of trees.
-
+// Marks composed, and trees made of trees.
 ghost use Rattle.std.specs.Prelude.{◌≡◌, ◌<◌, [], ◌∷◌, Some, map, length, IfOk};
 ghost use Rattle.query_tree.specs.declared.tree.UserInputLeaf.TheVariants.{Literal};
 ghost use Rattle.query_tree.specs.declared.tree.UserInputAst.TheVariants.{Clause, Leaf};
@@ -111,6 +110,7 @@ impl UserInputAst {
         joined(alloc, Occur::Should, asts)
     }
 
+    /// A tree of this leaf alone.
     pub fn from_leaf(alloc: Global, leaf: UserInputLeaf) -> Result<UserInputAst, AllocError>
         ensures { IfOk result (λ t. t ≡ Leaf leaf) }
     {

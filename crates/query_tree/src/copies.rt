@@ -1,12 +1,11 @@
-//! Copies, which equal what they copy.
-
+// Copies, which equal what they copy.
 ghost use Rattle.std.specs.Prelude.{◌≡◌, IfOk};
 
-use crate::tree::{
-    Clauses, Decimal, UserInputAst, UserInputBound, UserInputLeaf, UserInputLiteral,
-};
+use crate::tree::{Clauses, Occur, UserInputAst, UserInputBound, UserInputLeaf, UserInputLiteral};
 use owned_bytes::{Boxed, Text};
 use std::alloc::{AllocError, Global};
+
+type Pair = (Option<Occur>, UserInputAst);
 
 fn text_or_none(alloc: Global, text: &Option<Text>) -> Result<Option<Text>, AllocError>
     ensures { IfOk result (λ t. t ≡ text.now) }
@@ -17,18 +16,8 @@ fn text_or_none(alloc: Global, text: &Option<Text>) -> Result<Option<Text>, Allo
     }
 }
 
-impl Decimal {
-    pub fn clone(&self, alloc: Global) -> Result<Decimal, AllocError>
-        ensures { IfOk result (λ d. d ≡ self.now) }
-    {
-        Ok(Decimal {
-            whole: self.whole.clone(alloc)?,
-            fraction: self.fraction.clone(alloc)?,
-        })
-    }
-}
-
 impl UserInputBound {
+    /// The same bound.
     pub fn clone(&self, alloc: Global) -> Result<UserInputBound, AllocError>
         ensures { IfOk result (λ b. b ≡ self.now) }
     {
@@ -41,6 +30,7 @@ impl UserInputBound {
 }
 
 impl UserInputLiteral {
+    /// The same literal.
     pub fn clone(&self, alloc: Global) -> Result<UserInputLiteral, AllocError>
         ensures { IfOk result (λ l. l ≡ self.now) }
     {
@@ -55,6 +45,7 @@ impl UserInputLiteral {
 }
 
 impl UserInputLeaf {
+    /// The same leaf.
     pub fn clone(&self, alloc: Global) -> Result<UserInputLeaf, AllocError>
         ensures { IfOk result (λ l. l ≡ self.now) }
     {
@@ -86,16 +77,14 @@ impl UserInputLeaf {
 }
 
 impl UserInputAst {
+    /// The same tree.
+    #[cycle(copying)]
     pub fn clone(&self, alloc: Global) -> Result<UserInputAst, AllocError>
         ensures { IfOk result (λ t. t ≡ self.now) }
     {
         match self {
             UserInputAst::Clause(pairs) => {
-                let mut copy = Clauses::new(alloc);
-                for pair in pairs.as_slice() {
-                    copy.push((pair.0, pair.1.clone(alloc)?))?;
-                }
-                Ok(UserInputAst::Clause(copy))
+                Ok(UserInputAst::Clause(pairs_copied(alloc, pairs.as_slice())?))
             }
             UserInputAst::Boost(tree, factor) => Ok(UserInputAst::Boost(
                 Boxed::new(alloc, tree.get().clone(alloc)?)?,
@@ -106,5 +95,30 @@ impl UserInputAst {
                 leaf.get().clone(alloc)?,
             )?)),
         }
+    }
+}
+
+#[cycle(copying)]
+fn pairs_copied(alloc: Global, pairs: &[Pair]) -> Result<Clauses, AllocError>
+    ensures { IfOk result (λ copy. copy ≡ pairs.now) }
+{
+    let mut copy = Clauses::new(alloc);
+    for pair in pairs {
+        copy.push((pair.0, pair.1.clone(alloc)?))?;
+    }
+    Ok(copy)
+}
+
+/// The copy of a list of trees with their marks, as a method.
+pub trait CloneClauses {
+    /// The same list.
+    fn clone(&self, alloc: Global) -> Result<Clauses, AllocError>;
+}
+
+impl CloneClauses for Clauses {
+    fn clone(&self, alloc: Global) -> Result<Clauses, AllocError>
+        ensures { IfOk result (λ copy. copy ≡ self.now) }
+    {
+        pairs_copied(alloc, self.as_slice())
     }
 }

@@ -1,5 +1,4 @@
-//! The default field.
-
+// The default field.
 ghost use Rattle.std.specs.Prelude.{◌≡◌, IfOk, map};
 ghost use Rattle.query_tree.specs.Rewriting as rewriting;
 

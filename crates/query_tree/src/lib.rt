@@ -12,12 +12,13 @@ mod rewriting;
 mod showing;
 mod tree;
 
-pub use aggregating::{aggregated, negated};
+pub use aggregating::{aggregated, aggregates_from_the_left, negated};
 pub use answer::{Error, ParseError};
+pub use copies::CloneClauses;
+pub use decimal::Decimal;
 pub use fields::{leaf_under_field, under_field};
 pub use item::{Item, Operand};
 pub use rewriting::rewritten;
 pub use tree::{
-    Clauses, Decimal, Delimiter, Occur, UserInputAst, UserInputBound, UserInputLeaf,
-    UserInputLiteral,
+    Clauses, Delimiter, Occur, UserInputAst, UserInputBound, UserInputLeaf, UserInputLiteral,
 };

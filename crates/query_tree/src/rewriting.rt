@@ -1,5 +1,4 @@
-//! The rewriting at the end: equal pairs once, and lone pairs out of their clauses.
-
+// The rewriting at the end: equal pairs once, and lone pairs out of their clauses.
 ghost use Rattle.std.specs.Prelude.{◌≡◌, [], None, map, IfOk};
 ghost use Rattle.indexmap.specs.IndexSet.{insert_all};
 ghost use Rattle.query_tree.specs.declared.tree.UserInputAst.TheVariants.{Clause};
@@ -41,7 +40,7 @@ fn each_rewritten(alloc: Global, pairs: Clauses) -> Result<Clauses, AllocError>
     Ok(Items::from_vec(done))
 }
 
-/// Equal pairs once, the first of them.
+// Equal pairs once, the first of them.
 fn once(alloc: Global, pairs: Clauses) -> Result<Clauses, AllocError>
     ensures { IfOk result (λ kept. kept ≡ spec.without_repeats pairs) }
 {
@@ -49,7 +48,7 @@ fn once(alloc: Global, pairs: Clauses) -> Result<Clauses, AllocError>
     Ok(Items::from_vec(kept))
 }
 
-/// The items in order, the first of equal ones.
+// The items in order, the first of equal ones.
 fn first_ones<T: Eq + Hash + Drop>(alloc: Global, items: Vec<T>) -> Result<Vec<T>, AllocError>
     ensures { IfOk result (λ kept. kept.items ≡ insert_all T.eq [] items.items) }
 {
@@ -57,7 +56,7 @@ fn first_ones<T: Eq + Hash + Drop>(alloc: Global, items: Vec<T>) -> Result<Vec<T
     seen.into_iter().collect(alloc)
 }
 
-/// A set that keeps the order in which its items came.
+// A set that keeps the order in which its items came.
 fn set_of<T: Eq + Hash + Drop>(alloc: Global, items: Vec<T>) -> Result<IndexSet<T>, AllocError>
     ensures { IfOk result (λ set. set.keys ≡ insert_all T.eq [] items.items) }
 {
@@ -74,7 +73,7 @@ fn all_unwrapped(alloc: Global, pairs: Clauses) -> Result<Clauses, AllocError>
     Ok(Items::from_vec(done))
 }
 
-/// An unmarked clause of exactly one pair gives that pair.
+// An unmarked clause of exactly one pair gives that pair.
 fn unwrapped(occur: Option<Occur>, tree: UserInputAst) -> Pair
     ensures { result ≡ spec.unwrapped (occur, tree) }
 {

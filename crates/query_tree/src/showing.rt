@@ -1,19 +1,19 @@
-//! The debug text of a tree.
-
+// The debug text of a tree.
 ghost use Rattle.std.specs.Prelude.{map};
 ghost use Rattle.std.specs.List.{join_with_byte};
 ghost use Rattle.std.specs.Fmt.{WritesOnOk};
 ghost use Rattle.query_tree.specs.Texts as texts;
 
+use crate::decimal::Decimal;
 use crate::tree::{
-    Decimal, Delimiter, Occur, UserInputAst, UserInputBound, UserInputLeaf, UserInputLiteral,
+    Delimiter, Occur, UserInputAst, UserInputBound, UserInputLeaf, UserInputLiteral,
 };
 use owned_bytes::Text;
 use std::fmt::{self, Debug};
 
 type Pair = (Option<Occur>, UserInputAst);
 
-/// In front of a leaf that has a field.
+// In front of a leaf that has a field.
 fn show_field<W: fmt::Write>(field: &Option<Text>, f: &mut fmt::Formatter<W>) -> fmt::Result
     ensures { WritesOnOk W.write_str_gives f.old result (texts.field_text field.now) f.new }
 {
@@ -89,7 +89,7 @@ fn show_gap<W: fmt::Write>(field: &Option<Text>, f: &mut fmt::Formatter<W>) -> f
     }
 }
 
-/// A blank in front of all but the first.
+// A blank in front of all but the first.
 fn show_blank<W: fmt::Write>(shown: usize, f: &mut fmt::Formatter<W>) -> fmt::Result
     ensures { WritesOnOk W.write_str_gives f.old result (texts.gap shown) f.new }
 {
@@ -184,10 +184,10 @@ impl Debug for UserInputLeaf {
 fn show_number<W: fmt::Write>(number: &Decimal, f: &mut fmt::Formatter<W>) -> fmt::Result
     ensures { WritesOnOk W.write_str_gives f.old result (texts.decimal_text number.now.whole number.now.fraction) f.new }
 {
-    if number.fraction.as_str().is_empty() {
-        f.write_str(number.whole.as_str())
+    if number.fraction().is_empty() {
+        f.write_str(number.whole())
     } else {
-        write!(f, "{}.{}", number.whole.as_str(), number.fraction.as_str())
+        write!(f, "{}.{}", number.whole(), number.fraction())
     }
 }
 

@@ -1,3 +1,5 @@
+// The trees of queries.
+use crate::decimal::Decimal;
 use owned_bytes::{Boxed, Items, Text, Texts};
 
 /// What a tree's place in a clause asks of a document.
@@ -65,14 +67,6 @@ pub enum UserInputLeaf {
         field: Option<Text>,
         pattern: Text,
     },
-}
-
-/// A number in decimal: whole digits without zeros in front, at least `0`, and fraction digits
-/// without zeros behind.
-#[derive(Debug, PartialEq, Eq, Hash, Drop)]
-pub struct Decimal {
-    pub whole: Text,
-    pub fraction: Text,
 }
 
 /// Trees with their marks, in order.

@@ -5,6 +5,9 @@
 //! out otherwise is printed with what came out, and at the end how many rows there were.
 #![tactic(auto)]
 
+#[cfg(test)]
+mod trees;
+
 use anyhow::Context;
 use serde_json::Value;
 use std::alloc::Global;

@@ -4,20 +4,22 @@ use std::alloc::{AllocError, Global};
 use std::test::Fail;
 use term_index::{Outcome, Word, run};
 
+// Three documents, with the terms a, then a and b, then b in the field f.
 const THREE: &[u8] = b"[{\"f\":\"a\"},{\"f\":[\"a\",\"b\"]},{\"f\":\"b\"}]";
 
+// Two documents, with titles and tags.
 const TWO: &[u8] =
     b"[{\"title\":\"hello\",\"tag\":[\"a\",\"b\"]},{\"title\":\"hello world\",\"tag\":\"b\"}]";
 
-/// The index of `THREE`.
+// The index of `THREE`.
 const INDEX: &[u8] =
     b"\x03\x00\x00\x00\x04\x00\x00\x00\x00\x00\x00\x00\x94\x0b\x00\x00\x00\x00\x03\x00\x02\x02\x30\x66\x00\x61\x12\x62\x00\x00\x00\x00\x00\x00\x00\x00\x00\x00\x00\x00\x13\x00\x00\x00\x00\x00\x00\x00\x02\x00\x00\x00\x00\x00\x00\x00\x03\x00\x00\x00";
 
-/// The index of no documents.
+// The index of no documents.
 const EMPTY: &[u8] =
     b"\x00\x00\x00\x00\x00\x00\x00\x00\x00\x00\x00\x00\x00\x00\x00\x00\x00\x00\x00\x00\x00\x00\x00\x00\x04\x00\x00\x00\x00\x00\x00\x00\x00\x00\x00\x00\x00\x00\x00\x00\x03\x00\x00\x00";
 
-/// How a command ended, and what it wrote and printed.
+// How a command ended, and what it wrote and printed.
 #[derive(Drop)]
 struct Ended {
     outcome: Outcome,
@@ -25,7 +27,7 @@ struct Ended {
     printed: Vec<u8>,
 }
 
-/// The words, copied.
+// The words, copied.
 fn words_of(alloc: Global, texts: &[&str]) -> Result<Vec<Word>, AllocError> {
     let mut words = Vec::new(alloc);
     for text in texts {
@@ -34,7 +36,7 @@ fn words_of(alloc: Global, texts: &[&str]) -> Result<Vec<Word>, AllocError> {
     Ok(words)
 }
 
-/// Runs the words over documents and a file.
+// Runs the words over documents and a file.
 fn end_of(alloc: Global, words: &[&str], docs: &[u8], file: &[u8]) -> Result<Ended, AllocError> {
     let words = words_of(alloc, words)?;
     let mut docs = SliceSource::new(docs);
@@ -143,7 +145,7 @@ fn trees(rt: HostRuntime) -> Result<(), Fail> {
     Ok(())
 }
 
-/// So many parentheses round `f:a`.
+// So many parentheses round `f:a`.
 fn nested(alloc: Global, levels: usize) -> Result<String, AllocError> {
     let mut text = String::new(alloc);
     for _ in 0..levels {
@@ -176,7 +178,7 @@ fn nesting(rt: HostRuntime) -> Result<(), Fail> {
     Ok(())
 }
 
-/// The index of `THREE`, with another byte at a place.
+// The index of `THREE`, with another byte at a place.
 fn changed(alloc: Global, place: usize, byte: u8) -> Result<Vec<u8>, AllocError> {
     let mut bytes = Vec::from_slice(alloc, INDEX)?;
     if place < bytes.len() {
@@ -205,7 +207,7 @@ fn damaged(rt: HostRuntime) -> Result<(), Fail> {
     Ok(())
 }
 
-/// One document, whose field `f` has a term of so many bytes; behind it a member of this name.
+// One document, whose field `f` has a term of so many bytes; behind it a member of this name.
 fn long_term(alloc: Global, length: usize, more: &str) -> Result<String, AllocError> {
     let mut text = String::from_str(alloc, "[{\"f\":\"")?;
     for _ in 0..length {
@@ -238,7 +240,7 @@ fn long_keys(rt: HostRuntime) -> Result<(), Fail> {
     Ok(())
 }
 
-/// Searches a file whose third call fails, twice.
+// Searches a file whose third call fails, twice.
 fn searched_twice(alloc: Global) -> Result<(Outcome, Outcome, Vec<u8>), AllocError> {
     let words = words_of(alloc, &["search", "x", "f", "f:\"a\""])?;
     let bytes = OwnedBytes::new(alloc, Vec::from_slice(alloc, INDEX)?)?;
@@ -274,7 +276,7 @@ fn failed_read(rt: HostRuntime) -> Result<(), Fail> {
     Ok(())
 }
 
-/// The call of the source, of the store and of the output that fails (0: none does), and what comes of it.
+// The call of the source, of the store and of the output that fails (0: none does), and what comes of it.
 #[derive(Clone, Copy)]
 struct Faulty {
     command: &'static str,
@@ -284,7 +286,7 @@ struct Faulty {
     outcome: Outcome,
 }
 
-/// How a command over `THREE` ends with these faults, and whether the store then has a prefix of the index.
+// How a command over `THREE` ends with these faults, and whether the store then has a prefix of the index.
 fn end_with(alloc: Global, row: Faulty) -> Result<(Outcome, bool), AllocError> {
     let words = if row.command == "build" {
         words_of(alloc, &["build", "x", "1"])?
@@ -378,5 +380,63 @@ fn forms(rt: HostRuntime) -> Result<(), Fail> {
         let ended = end_of(rt.alloc(), words, b"[]", b"")?;
         assert_eq!(rt; ended.outcome.status(), status);
     }
+    Ok(())
+}
+
+// How two commands after one another end over one source, store and output, and what these then hold.
+fn end_in_turn(
+    alloc: Global,
+    first: &[&str],
+    second: &[&str],
+    docs: &[u8],
+) -> Result<(Outcome, Outcome, usize, Vec<u8>, Vec<u8>), AllocError> {
+    let first = words_of(alloc, first)?;
+    let second = words_of(alloc, second)?;
+    let mut docs = SliceSource::new(docs);
+    let mut file = BytesFile::new(OwnedBytes::empty(alloc)?);
+    let mut store = VecSink::new(alloc);
+    let mut out = VecSink::new(alloc);
+    let done = run(
+        alloc,
+        first.as_slice(),
+        &mut docs,
+        &mut file,
+        &mut store,
+        &mut out,
+    );
+    let left = docs.rest().len();
+    let refused = run(
+        alloc,
+        second.as_slice(),
+        &mut docs,
+        &mut file,
+        &mut store,
+        &mut out,
+    );
+    Ok((done, refused, left, store.into_bytes(), out.into_bytes()))
+}
+
+// The source is read to its end, and what is there stays after a refusal.
+#[test]
+fn what_is_there_stays(rt: HostRuntime) -> Result<(), Fail> {
+    let alloc = rt.alloc();
+    let (done, refused, left, store, _) = end_in_turn(
+        alloc,
+        &["build", "x", "1"],
+        &["build", "x", "1"],
+        THREE,
+    )?;
+    assert_eq!(rt; (done, refused), (Outcome::Done, Outcome::BadInput));
+    assert_eq!(rt; left, 0);
+    assert_eq!(rt; store.as_slice(), INDEX);
+    let (done, refused, left, _, printed) = end_in_turn(
+        alloc,
+        &["ask", "f", "a"],
+        &["tree", "f:"],
+        THREE,
+    )?;
+    assert_eq!(rt; (done, refused), (Outcome::Done, Outcome::Query));
+    assert_eq!(rt; left, 0);
+    assert_eq!(rt; printed.as_slice(), b"0\n1\n".as_slice());
     Ok(())
 }

@@ -38,12 +38,15 @@ fn found(alloc: Global, bytes: &[u8], field: &str, query: &str) -> Result<Ids, S
 
 #[test]
 fn numbers_are_found(rt: HostRuntime) -> Result<(), Fail> {
-    let rows: [(&[u8], &str, &str, &[u32]); 11] = [
+    let rows: [(&[u8], &str, &str, &[u32]); 14] = [
         (&THREE, "f", "a", &[0, 1]),
         (&THREE, "g", "f:\"a\" AND NOT f:\"b\"", &[0]),
         (&THREE, "g", "a", &[]),
         (&THREE, "f", "a AND b", &[1]),
         (&THREE, "f", "a^2 OR b", &[0, 1, 2]),
+        (&THREE, "f", "(a)", &[0, 1]),
+        (&THREE, "f", "a^2", &[0, 1]),
+        (&THREE, "f", "c", &[]),
         (&THREE, "f", "-a", &[2]),
         (&THREE, "f", "IN [\"c\" \"b\"]", &[1, 2]),
         (&THREE, "f", "*", &[0, 1, 2]),

@@ -11,7 +11,7 @@ use std::io::ErrorKind;
 use std::process::ExitCode;
 use term_index::{Opening, Outcome, Word, opening_of, run};
 
-/// Why there are no words.
+// Why there are no words.
 enum WordsError {
     Memory,
     NotText,
@@ -23,14 +23,14 @@ impl From<AllocError> for WordsError {
     }
 }
 
-/// How the program ends.
+// How the program ends.
 enum Ending {
     Outcome(Outcome),
-    /// The file that the words name cannot be opened or made.
+    // The file that the words name cannot be opened or made.
     CannotOpen,
 }
 
-/// The words behind the program's name.
+// The words behind the program's name.
 fn words_of<R: Env + AllocGlobal>(rt: &R) -> Result<Vec<Word>, WordsError> {
     let args = match env::args(rt) {
         Ok(args) => args,
@@ -47,7 +47,7 @@ fn words_of<R: Env + AllocGlobal>(rt: &R) -> Result<Vec<Word>, WordsError> {
     Ok(words)
 }
 
-/// Runs a command that makes this file.
+// Runs a command that makes this file.
 fn create(rt: &HostRuntime, words: &[Word], path: &str) -> Ending {
     let Ok(made) = File::create(rt, path) else {
         return Ending::CannotOpen;
@@ -66,7 +66,7 @@ fn create(rt: &HostRuntime, words: &[Word], path: &str) -> Ending {
     ))
 }
 
-/// Runs a command that reads this file.
+// Runs a command that reads this file.
 fn read(rt: &HostRuntime, words: &[Word], path: &str) -> Ending {
     let Ok(opened) = File::open(rt, path) else {
         return Ending::CannotOpen;
@@ -87,7 +87,7 @@ fn read(rt: &HostRuntime, words: &[Word], path: &str) -> Ending {
     ))
 }
 
-/// Runs a command without a file.
+// Runs a command without a file.
 fn without_file(rt: &HostRuntime, words: &[Word]) -> Ending {
     let mut docs = StdSource::new(rt.stdin());
     let mut file = BytesFile::new(OwnedBytes::empty(rt.alloc()).unwrap());
@@ -103,7 +103,7 @@ fn without_file(rt: &HostRuntime, words: &[Word]) -> Ending {
     ))
 }
 
-/// Writes a text to the standard output.
+// Writes a text to the standard output.
 fn tell(rt: &HostRuntime, text: &str) -> Ending {
     let mut out = StdSink::new(rt.stdout());
     Ending::Outcome(match out.write_all(text.as_bytes()) {
@@ -113,7 +113,7 @@ fn tell(rt: &HostRuntime, text: &str) -> Ending {
     })
 }
 
-/// The text that a word alone asks for.
+// The text that a word alone asks for.
 fn text_of(words: &[Word]) -> Option<&'static str> {
     match words {
         [word] if word.as_str() == "--help" => Some(texts::HELP),
@@ -122,6 +122,7 @@ fn text_of(words: &[Word]) -> Option<&'static str> {
     }
 }
 
+// Does what the words ask for.
 fn ending_of(rt: &HostRuntime) -> Ending {
     let words = match words_of(rt) {
         Ok(words) => words,
@@ -138,6 +139,7 @@ fn ending_of(rt: &HostRuntime) -> Ending {
     }
 }
 
+// Tells by its status how it ended, and by a line on standard error where that is not done.
 fn main(rt: HostRuntime) -> ExitCode {
     let ending = ending_of(&rt);
     let mut errors = StdSink::new(rt.stderr());

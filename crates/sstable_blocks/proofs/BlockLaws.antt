@@ -4,8 +4,8 @@ use Rattle.std.proofs.lemmas.List.{drop-take, take-take}
 use Rattle.std.specs.Prelude.{nat_lt, not, ◌==◌}
 use Rattle.std.specs.Int.{w32, from_le_bytes}
 use Rattle.std.proofs.lemmas.Bool.{ltb-false}
-use Rattle.sstable_blocks.specs.declared.errors.BlockError.{BlockError}
-use Rattle.sstable_blocks.specs.declared.errors.BlockError.TheVariants.{Corrupt, Compressed}
+use Rattle.sstable_values.specs.declared.errors.BlockError.{BlockError}
+use Rattle.sstable_values.specs.declared.errors.BlockError.TheVariants.{Corrupt, Compressed}
 use Rattle.sstable_blocks.specs.Content.{Found, content_after, block_at}
 
 -- a test that found no fault

@@ -9,11 +9,11 @@ use Rattle.std.proofs.Math.Seq.{take-append_seam, drop-append_seam}
 use Rattle.owned_bytes.specs.Front.{◌>>=◌, provided, bytes_at, Piece, piece_or_fault, pieces}
 use Rattle.owned_bytes.specs.Keys.{Key, shared, is_below, is_rising}
 use Rattle.owned_bytes.proofs.Pieces.{Shrinks, pieces-spelled, pieces-step, with_front, bind_some, some_is, piece_is, bytes_at-shrinks}
-use Rattle.sstable_blocks.specs.Vint.{vint, vint_at, groups_at}
+use Rattle.sstable_values.specs.Vint.{vint, vint_at, groups_at}
 use Rattle.sstable_blocks.specs.Delta.{Delta, two_vints_at, keep_and_add_at, delta_at}
 use Rattle.sstable_blocks.specs.Block.{front_of_deltas, key_after, keys_after, delta, delta_between, deltas_between}
-use Rattle.sstable_blocks.proofs.RisingLaws.{both-true}
-use Rattle.sstable_blocks.proofs.VintLaws.{vint-again}
+use Rattle.sstable_values.proofs.RisingLaws.{both-true}
+use Rattle.sstable_values.proofs.VintLaws.{vint-again}
 
 -- so many bytes, whatever follows them
 pub bytes_at-again : (bytes rest : List ℕ) → bytes_at (length bytes) (bytes ++ rest) ≡ Some (bytes, rest)

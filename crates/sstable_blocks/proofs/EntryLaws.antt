@@ -1,21 +1,18 @@
 -- A reader of entries gives the entries of the run, in order.
-use Rattle.std.proofs.Common.{◌≡◌, ℕ, zero, suc, ◌+◌, ◌<◌, List, [], ◌∷◌, ◌++◌, length, take, drop, map, Bool, true, false, cond, Option, Some, None, Result, Ok, Err, refl, ap, sym, ◌∙◌, subst, inl, inr, arith, drop-drop}
-use Rattle.std.specs.Prelude.{IsSome, IsTrue, IfOk, is_some, unwrap_or, is_none, slice_get, nat_eq, ◌==◌, ◌||◌, ◌⊎◌}
+use Rattle.std.proofs.Common.{◌≡◌, ℕ, zero, suc, ◌+◌, ◌<◌, List, [], ◌∷◌, ◌++◌, length, take, drop, map, Bool, true, false, cond, Option, Some, None, Ok, refl, ap, sym, ◌∙◌, subst, inl, inr, arith, drop-drop}
+use Rattle.std.specs.Prelude.{unwrap_or, slice_get, nat_eq, ◌==◌, ◌||◌, ◌⊎◌}
 use Rattle.std.specs.List.{zip}
-use Rattle.std.proofs.lemmas.Bool.{eqb-true, eq-eqb, false≢true}
+use Rattle.std.proofs.lemmas.Bool.{eqb-true, eq-eqb}
 use Rattle.owned_bytes.specs.Front.{◌>>=◌, provided, Front, End, Piece, Fault, piece_or_fault, continued, pieces}
 use Rattle.owned_bytes.specs.Keys.{Key, shared, is_below}
 use Rattle.owned_bytes.proofs.Pieces.{pieces-step, bind_some, some_is}
-use Rattle.sstable_blocks.specs.declared.errors.BlockError.{BlockError}
-use Rattle.sstable_blocks.specs.declared.errors.BlockError.TheVariants.{Memory, Corrupt, Compressed}
-use Rattle.sstable_blocks.specs.Values.{Values, Listed, Everywhere, value_at, values_from, HasNone}
-use Rattle.sstable_blocks.specs.Codec.{Codec}
-use Rattle.sstable_blocks.specs.Content.{Found, block_at}
+use Rattle.sstable_values.specs.Values.{Values, Listed, Everywhere, value_at, values_from}
+use Rattle.sstable_values.specs.Codec.{Codec, everywhere_or_none}
 use Rattle.sstable_blocks.specs.Delta.{Delta, delta_at}
 use Rattle.sstable_blocks.specs.Block.{front_of_deltas, key_after, keys_after, keys_of, paired, block_of}
 use Rattle.sstable_blocks.specs.Run.{front_of_blocks, last_key, may_follow, key_before, Block, Run, blocks_after, whole_run_of, entries_of, run_of}
-use Rattle.sstable_blocks.specs.Entries.{Entry, Walk, IsFresh, entry_at, Step, to_entry, within_block, to_first, to_block, onward, step_from, step, last_or, entries_left, MemoryOr, Advances, TakesFirst, GivesFirst}
-use Rattle.sstable_blocks.proofs.RisingLaws.{provided-true}
+use Rattle.sstable_blocks.specs.Entries.{Entry, Walk, IsFresh, entry_at, Step, to_entry, within_block, to_first, to_block, onward, step, last_or, entries_left, TakesFirst}
+use Rattle.sstable_values.proofs.RisingLaws.{provided-true}
 use Rattle.sstable_blocks.proofs.DeltaLaws.{deltas-shrink}
 use Rattle.sstable_blocks.proofs.RunLaws.{blocks-shrink, found-piece, found-end}
 
@@ -121,7 +118,6 @@ first_key before first others keys e =
 
 -- The parts of what is left.
 record Parts {V : Type 0} (codec : Codec V) (before : Option Key) (walk : Walk V) (entries : List (Key × V)) : Type 0 where
-  no_error : walk.failed ≡ None
   ds : List Delta
   after : List ℕ
   deltas : pieces front_of_deltas walk.deltas ≡ Some (ds, after)
@@ -136,10 +132,6 @@ record Parts {V : Type 0} (codec : Codec V) (before : Option Key) (walk : Walk V
   run : blocks_after codec (last_or before here) contents ≡ Some blocks
   all : entries ≡ here ++ entries_of blocks
 
-no_error-is : (failed : Option BlockError) → is_none failed ≡ true → failed ≡ None
-no_error-is None e = refl
-no_error-is (Some x) e = absurd cc
-
 after_contents : {V : Type 0} → Codec V → Option Key → List (Key × V) → List (List ℕ) × List ℕ → Option (List (Key × V))
 after_contents codec before here contents = blocks_after codec (last_or before here) contents.0 >>= (λ blocks. Some (here ++ entries_of blocks))
 
@@ -152,14 +144,12 @@ after_deltas codec before walk deltas = keys_after (unwrap_or before []) deltas.
 parts_of : {V : Type 0} (codec : Codec V) (before : Option Key) (walk : Walk V) (entries : List (Key × V)) → entries_left codec before walk ≡ Some entries → Parts codec before walk entries
 unfolding entries_left after_contents after_here after_deltas
 parts_of codec before walk entries e =
-    let ok = bind_some (provided (is_none walk.failed)) (λ _. pieces front_of_deltas walk.deltas >>= after_deltas codec before walk) entries e in
-    let deltas = bind_some (pieces front_of_deltas walk.deltas) (after_deltas codec before walk) entries ok.2 in
+    let deltas = bind_some (pieces front_of_deltas walk.deltas) (after_deltas codec before walk) entries e in
     let keys = bind_some (keys_after (unwrap_or before []) deltas.0.0) (λ keys. paired keys (values_from walk.given walk.values) >>= after_here codec before walk.rest) entries deltas.2 in
     let here = bind_some (paired keys.0 (values_from walk.given walk.values)) (after_here codec before walk.rest) entries keys.2 in
     let contents = bind_some (pieces front_of_blocks walk.rest) (after_contents codec before here.0) entries here.2 in
     let blocks = bind_some (blocks_after codec (last_or before here.0) contents.0.0) (λ blocks. Some (here.0 ++ entries_of blocks)) entries contents.2 in
     record {
-      no_error = no_error-is walk.failed (provided-true _ _ ok.1);
       ds = deltas.0.0;
       after = deltas.0.1;
       deltas = deltas.1;
@@ -178,8 +168,7 @@ parts_of codec before walk entries e =
 of_parts : {V : Type 0} (codec : Codec V) (before : Option Key) (walk : Walk V) (entries : List (Key × V)) → Parts codec before walk entries → entries_left codec before walk ≡ Some entries
 unfolding entries_left after_contents after_here after_deltas
 of_parts codec before walk entries p =
-    ap (λ f. provided (is_none f) >>= (λ _. pieces front_of_deltas walk.deltas >>= after_deltas codec before walk)) p.no_error
-    ∙ ap (λ o. o >>= after_deltas codec before walk) p.deltas
+    ap (λ o. o >>= after_deltas codec before walk) p.deltas
     ∙ ap (λ o. o >>= (λ keys. paired keys (values_from walk.given walk.values) >>= after_here codec before walk.rest)) p.made
     ∙ ap (λ o. o >>= after_here codec before walk.rest) p.pairs
     ∙ ap (λ o. o >>= after_contents codec before p.here) p.cut
@@ -199,11 +188,11 @@ last_key-first key v (entry ∷ others) = refl
 -- A step within a block, whose first key is made of the key before.
 moves_within : {V : Type 0} (codec : Codec V) (before : Option Key) (walk : Walk V) (entries : List (Key × V)) (ds : List Delta) (after : List ℕ) (key : Key) (keys : List Key) (here : List (Key × V))
     (contents : List (List ℕ)) (end : List ℕ) (blocks : List (Block V)) (d : FirstDelta walk.deltas ds after) (v : FirstValue key keys walk.given walk.values here)
-    → walk.failed ≡ None → keys_after key d.others ≡ Some keys → key_after (unwrap_or before []) d.first ≡ key
+    → keys_after key d.others ≡ Some keys → key_after (unwrap_or before []) d.first ≡ key
     → (d.first.keep ≡ 0) ⊎ (d.first.keep ≡ shared (unwrap_or before []) key)
     → pieces front_of_blocks walk.rest ≡ Some (contents, end) → blocks_after codec (last_key here) contents ≡ Some blocks → entries ≡ here ++ entries_of blocks
     → Moves codec before entries (within_block walk)
-moves_within {V} codec before walk entries ds after key keys here contents end blocks d v no_error others made keeps cut run all =
+moves_within {V} codec before walk entries ds after key keys here contents end blocks d v others made keeps cut run all =
     let entry : Entry V = record { delta = d.first; value = v.value } in
     let new : Walk V = record walk { current = Some entry; given = walk.given + 1; deltas = d.left } in
     let found : entry_at walk.values walk.given walk.deltas ≡ Some (entry, d.left) =
@@ -222,7 +211,6 @@ moves_within {V} codec before walk entries ds after key keys here contents end b
         made = made;
         keeps = keeps;
         left = of_parts codec (Some key) new (v.others ++ entries_of blocks) (record {
-          no_error = no_error;
           ds = d.others;
           after = after;
           deltas = d.after;
@@ -349,10 +337,10 @@ keys_of-none before = refl
 
 -- A step to the first entry of a block.
 moves_to_block : {V : Type 0} (codec : Codec V) (before : Option Key) (walk : Walk V) (entries : List (Key × V)) (contents : List (List ℕ)) (end : List ℕ) (blocks : List (Block V))
-    → walk.failed ≡ None → (b : NextBlock codec before walk.rest contents end blocks) → entries ≡ entries_of blocks
+    → (b : NextBlock codec before walk.rest contents end blocks) → entries ≡ entries_of blocks
     → Moves codec before entries (to_first (record walk { rest = b.after; place = walk.place + (5 + length b.content) }) (codec.values_of b.content))
 unfolding block_of
-moves_to_block {V} codec before walk entries contents end blocks no_error b all =
+moves_to_block {V} codec before walk entries contents end blocks b all =
     let p = key_before codec before in
     let values = bind_some (codec.values_of b.content) (λ values. pieces front_of_deltas values.1 >>= (λ deltas. keys_of p deltas.0 >>= (λ keys. paired keys values.0))) b.here b.block in
     let deltas = bind_some (pieces front_of_deltas values.0.1) (λ deltas. keys_of p deltas.0 >>= (λ keys. paired keys values.0.0)) b.here values.2 in
@@ -364,7 +352,7 @@ moves_to_block {V} codec before walk entries contents end blocks no_error b all 
     let v = first_value key k.after 0 values.0.0 b.here pairs in
     let made = first_made codec before d.first k.keeps in
     let entered : Walk V = record walk { rest = b.after; place = walk.place + (5 + length b.content); values = values.0.0; given = 0; deltas = values.0.1 } in
-    let moves = moves_within codec before entered entries deltas.0.0 deltas.0.1 key k.after b.here b.others end b.following d v no_error k.left made.0 made.1 b.cut b.run (all ∙ ap entries_of b.all) in
+    let moves = moves_within codec before entered entries deltas.0.0 deltas.0.1 key k.after b.here b.others end b.following d v k.left made.0 made.1 b.cut b.run (all ∙ ap entries_of b.all) in
     record {
       new = moves.new;
       is = ap (to_first (record walk { rest = b.after; place = walk.place + (5 + length b.content) })) values.1 ∙ moves.is;
@@ -387,7 +375,7 @@ outcome {V} codec before walk entries e = by_deltas walk.deltas refl
     p = parts_of codec before walk entries e
 
     onward_is : (bytes : List ℕ) → walk.deltas ≡ bytes → step codec walk ≡ onward codec walk bytes
-    onward_is bytes same = ap (step_from codec walk) p.no_error ∙ ap (onward codec walk) same
+    onward_is bytes same = ap (onward codec walk) same
 
     nothing_here : walk.deltas ≡ [] → p.here ≡ []
     nothing_here same =
@@ -398,7 +386,7 @@ outcome {V} codec before walk entries e = by_deltas walk.deltas refl
     by_blocks : walk.deltas ≡ [] → entries ≡ entries_of p.blocks → Blocks codec before walk.rest p.contents p.end p.blocks → Outcome codec before entries walk
     by_blocks same all (NoBlock at none) = Ended (all ∙ ap entries_of none) (onward_is [] same ∙ ap (to_block codec walk) (found-end walk.place walk.rest at))
     by_blocks same all (OneBlock b) =
-        let m = moves_to_block codec before walk entries p.contents p.end p.blocks p.no_error b all in
+        let m = moves_to_block codec before walk entries p.contents p.end p.blocks b all in
         Moved m.new (onward_is [] same ∙ ap (to_block codec walk) (found-piece walk.place walk.rest b.content b.after b.at) ∙ m.is) m.takes
 
     by_deltas : (bytes : List ℕ) → walk.deltas ≡ bytes → Outcome codec before entries walk
@@ -413,54 +401,27 @@ outcome {V} codec before walk entries e = by_deltas walk.deltas refl
         let v = first_value key k.after walk.given walk.values p.here (ap (λ ks. paired ks (values_from walk.given walk.values)) (sym k.is) ∙ p.pairs) in
         let last : last_key p.here ≡ last_or before p.here = ap last_key v.is ∙ sym (ap (last_or before) v.is) in
         let run : blocks_after codec (last_key p.here) p.contents ≡ Some p.blocks = ap (λ l. blocks_after codec l p.contents) last ∙ p.run in
-        let m = moves_within codec before walk entries p.ds p.after key k.after p.here p.contents p.end p.blocks d v p.no_error k.left refl (inr k.keeps) p.cut run p.all in
+        let m = moves_within codec before walk entries p.ds p.after key k.after p.here p.contents p.end p.blocks d v k.left refl (inr k.keeps) p.cut run p.all in
         Moved m.new (onward_is (b ∷ bytes) same ∙ m.is) m.takes
 
-step-is : {V : Type 0} (x y : Walk V) → ◌≡◌ {A = Step V} (Ok (Some x)) (Ok (Some y)) → x ≡ y
+pub step-is : {V : Type 0} (x y : Walk V) → ◌≡◌ {A = Step V} (Ok (Some x)) (Ok (Some y)) → x ≡ y
 step-is x y e = cc
 
--- what is left doesn't depend on the current entry
-same_left : {V : Type 0} (codec : Codec V) (before : Option Key) (walk : Walk V) → entries_left codec before (record walk { current = None }) ≡ entries_left codec before walk
-unfolding entries_left
-same_left codec before walk = refl
-
--- Where entries are left, a call gives the first of them, or says that there is none.
-pub gives_first : {V : Type 0} (codec : Codec V) (old new : Walk V) (r : Result Bool BlockError) → Advances codec old new r
-    → (before : Option Key) (entries : List (Key × V)) → entries_left codec before old ≡ Some entries → GivesFirst codec before entries new r
-gives_first {V} codec old new (Ok true) adv before entries e = by_outcome (outcome codec before old entries e)
-  where
-    by_outcome : Outcome codec before entries old → TakesFirst codec before entries new
-    by_outcome (Ended none at) = let same : ◌≡◌ {A = Step V} (Ok None) (Ok (Some new)) = sym at ∙ adv in absurd cc
-    by_outcome (Moved there at takes) = subst (λ w. TakesFirst codec before entries w) (step-is there new (sym at ∙ adv)) takes
-gives_first {V} codec old new (Ok false) adv before entries e = by_outcome (outcome codec before old entries e)
-  where
-    by_outcome : Outcome codec before entries old → (entries ≡ []) × (entries_left codec before new ≡ Some [])
-    by_outcome (Ended none at) = (none, ap (entries_left codec before) adv.1 ∙ same_left codec before old ∙ e ∙ ap Some none)
-    by_outcome (Moved there at takes) = let same : ◌≡◌ {A = Step V} (Ok None) (Ok (Some there)) = sym adv.0 ∙ at in absurd cc
-gives_first {V} codec old new (Err x) adv before entries e = by_error x adv.0 (outcome codec before old entries e)
-  where
-    by_error : (x : BlockError) → MemoryOr x (step codec old ≡ Err x) → Outcome codec before entries old → x ≡ Memory
-    by_error Memory at o = refl
-    by_error Corrupt at (Ended none is) = let same : ◌≡◌ {A = Step V} (Err Corrupt) (Ok None) = sym at ∙ is in absurd cc
-    by_error Corrupt at (Moved there is takes) = let same : ◌≡◌ {A = Step V} (Err Corrupt) (Ok (Some there)) = sym at ∙ is in absurd cc
-    by_error (Compressed place) at (Ended none is) = let same : ◌≡◌ {A = Step V} (Err (Compressed place)) (Ok None) = sym at ∙ is in absurd cc
-    by_error (Compressed place) at (Moved there is takes) = let same : ◌≡◌ {A = Step V} (Err (Compressed place)) (Ok (Some there)) = sym at ∙ is in absurd cc
-
-none_pairs : {V : Type 0} (values : Values V) → HasNone values → paired [] (values_from 0 values) ≡ Some []
+none_pairs : {V : Type 0} (one : Option V) → paired [] (values_from 0 (everywhere_or_none one)) ≡ Some []
 unfolding paired
-none_pairs (Listed values) none = ap (λ (vs : List _). provided (nat_eq 0 (length vs)) >>= (λ _. Some (zip [] vs))) none
-none_pairs (Everywhere value) none = refl
+none_pairs None = refl
+none_pairs (Some value) = refl
 
 -- What is left of a reader that gave nothing yet is the run of its bytes.
-pub fresh_left : {V : Type 0} (codec : Codec V) (walk : Walk V) (bytes : List ℕ) (start : ℕ) → IsFresh walk bytes start → entries_left codec None walk ≡ run_of codec bytes
+pub fresh_left : {V : Type 0} (codec : Codec V) (walk : Walk V) (bytes : List ℕ) (start : ℕ) → IsFresh codec walk bytes start → entries_left codec None walk ≡ run_of codec bytes
 unfolding entries_left run_of whole_run_of after_contents after_here after_deltas
 fresh_left {V} codec walk bytes start f =
-    ap (λ e. provided (is_none e) >>= (λ _. pieces front_of_deltas walk.deltas >>= after_deltas codec None walk)) f.no_error
-    ∙ ap (λ ds. pieces front_of_deltas ds >>= after_deltas codec None walk) f.no_delta
+    ap (λ ds. pieces front_of_deltas ds >>= after_deltas codec None walk) f.no_delta
     ∙ ap (λ o. o >>= after_deltas codec None walk) no_deltas
     ∙ ap (λ o. o >>= (λ keys. paired keys (values_from walk.given walk.values) >>= after_here codec None walk.rest)) (keys_after-none [])
     ∙ ap (λ n. paired [] (values_from n walk.values) >>= after_here codec None walk.rest) f.none_given
-    ∙ ap (λ o. o >>= after_here codec None walk.rest) (none_pairs walk.values f.no_value)
+    ∙ ap (λ vs. paired [] (values_from 0 vs) >>= after_here codec None walk.rest) f.no_value
+    ∙ ap (λ o. o >>= after_here codec None walk.rest) (none_pairs codec.everywhere)
     ∙ ap (λ (rest : List ℕ). pieces front_of_blocks rest >>= after_contents codec None []) f.bytes
     ∙ by_contents (pieces front_of_blocks bytes)
   where
@@ -472,29 +433,31 @@ fresh_left {V} codec walk bytes start f =
     by_contents None = refl
     by_contents (Some contents) = by_blocks contents.1 (blocks_after codec None contents.0)
 
--- After a step to an entry there is a current one.
-entry_current : {V : Type 0} (walk new : Walk V) (found : Option (Entry V × List ℕ)) → to_entry walk found ≡ Ok (Some new) → IsSome new.current
-entry_current walk new None e = absurd cc
-entry_current {V} walk new (Some found) e = let is : record walk { current = Some found.0; given = walk.given + 1; deltas = found.1 } ≡ new = step-is _ _ e in ap (λ (w : Walk V). is_some w.current) (sym is)
+-- What is left where the values of the block are used up and other bytes follow: the run of these, after no key.
+pub slice_left : {V : Type 0} (codec : Codec V) (walk : Walk V) (bytes : List ℕ) → walk.deltas ≡ [] → paired [] (values_from walk.given walk.values) ≡ Some [] → walk.rest ≡ bytes
+    → entries_left codec None walk ≡ run_of codec bytes
+unfolding entries_left run_of whole_run_of after_contents after_here after_deltas
+slice_left {V} codec walk bytes no_delta used is =
+    ap (λ ds. pieces front_of_deltas ds >>= after_deltas codec None walk) no_delta
+    ∙ ap (λ o. o >>= after_deltas codec None walk) no_deltas
+    ∙ ap (λ o. o >>= (λ keys. paired keys (values_from walk.given walk.values) >>= after_here codec None walk.rest)) (keys_after-none [])
+    ∙ ap (λ o. o >>= after_here codec None walk.rest) used
+    ∙ ap (λ (rest : List ℕ). pieces front_of_blocks rest >>= after_contents codec None []) is
+    ∙ by_contents (pieces front_of_blocks bytes)
+  where
+    by_blocks : (rest : List ℕ) (found : Option (List (Block V))) → (found >>= (λ blocks. Some (entries_of blocks))) ≡ ((found >>= (λ blocks. Some (record { blocks = blocks; rest = rest }))) >>= (λ (run : Run V). Some (entries_of run.blocks)))
+    by_blocks rest None = refl
+    by_blocks rest (Some blocks) = refl
 
-first_current : {V : Type 0} (walk new : Walk V) (found : Option (Values V × List ℕ)) → to_first walk found ≡ Ok (Some new) → IsSome new.current
-first_current walk new None e = absurd cc
-first_current walk new (Some found) e = entry_current (record walk { values = found.0; given = 0; deltas = found.1 }) new (entry_at found.0 0 found.1) e
+    by_contents : (found : Option (List (List ℕ) × List ℕ)) → (found >>= after_contents codec None []) ≡ ((found >>= (λ contents. blocks_after codec None contents.0 >>= (λ blocks. Some (record { blocks = blocks; rest = contents.1 })))) >>= (λ (run : Run V). Some (entries_of run.blocks)))
+    by_contents None = refl
+    by_contents (Some contents) = by_blocks contents.1 (blocks_after codec None contents.0)
 
-block_current : {V : Type 0} (codec : Codec V) (walk new : Walk V) (found : Found) → to_block codec walk found ≡ Ok (Some new) → IsSome new.current
-block_current codec walk new (Err x) e = absurd cc
-block_current codec walk new (Ok None) e = absurd cc
-block_current codec walk new (Ok (Some found)) e = first_current (record walk { rest = found.1; place = walk.place + (5 + length found.0) }) new (codec.values_of found.0) e
-
-onward_current : {V : Type 0} (codec : Codec V) (walk new : Walk V) (bytes : List ℕ) → onward codec walk bytes ≡ Ok (Some new) → IsSome new.current
-onward_current codec walk new [] e = block_current codec walk new (block_at walk.place walk.rest) e
-onward_current codec walk new (b ∷ bytes) e = entry_current walk new (entry_at walk.values walk.given walk.deltas) e
-
-step_current : {V : Type 0} (codec : Codec V) (walk new : Walk V) (failed : Option BlockError) → step_from codec walk failed ≡ Ok (Some new) → IsSome new.current
-step_current codec walk new (Some x) e = absurd cc
-step_current codec walk new None e = onward_current codec walk new walk.deltas e
-
-pub advances_current : {V : Type 0} (codec : Codec V) (old new : Walk V) (r : Result Bool BlockError) → Advances codec old new r → IfOk r (λ more. IsTrue more → IsSome new.current)
-advances_current codec old new (Ok true) adv = λ t. step_current codec old new old.failed adv
-advances_current codec old new (Ok false) adv = λ t. absurd (false≢true t)
-advances_current codec old new (Err x) adv = tt
+-- Where entries are left, at the end of a block its values are used up.
+pub values_used : {V : Type 0} (codec : Codec V) (before : Option Key) (walk : Walk V) (entries : List (Key × V)) → entries_left codec before walk ≡ Some entries → walk.deltas ≡ [] → paired [] (values_from walk.given walk.values) ≡ Some []
+values_used codec before walk entries e same =
+    let p = parts_of codec before walk entries e in
+    let ds : [] ≡ p.ds = (list_parts ([], []) (p.ds, p.after) (sym no_deltas ∙ ap (pieces front_of_deltas) (sym same) ∙ p.deltas)).0 in
+    let keys : [] ≡ p.keys = some_is _ _ (sym (keys_after-none (unwrap_or before [])) ∙ ap (keys_after (unwrap_or before [])) ds ∙ p.made) in
+    let pairs : paired [] (values_from walk.given walk.values) ≡ Some p.here = ap (λ ks. paired ks (values_from walk.given walk.values)) keys ∙ p.pairs in
+    pairs ∙ ap Some (none_paired (values_from walk.given walk.values) p.here pairs)

@@ -1,10 +1,12 @@
-pub mod VintLaws
-pub mod RisingLaws
-pub mod RangeLaws
 pub mod BlockLaws
+pub mod LeavingLaws
 pub mod DeltaLaws
-pub mod Rows
 pub mod RunLaws
 pub mod EntryLaws
 pub mod ReaderLaws
+pub mod SliceLaws
+pub mod OrderLaws
+pub mod ComparingLaws
 pub mod WritingLaws
+pub mod Rows
+pub mod SliceRows

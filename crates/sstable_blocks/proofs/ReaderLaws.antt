@@ -5,11 +5,11 @@ use Rattle.std.specs.Prelude.{IsSome, slice_get}
 use Rattle.std.proofs.lemmas.Bool.{false≢true}
 use Rattle.std.proofs.lemmas.Option.{slice_get_within}
 use Rattle.owned_bytes.specs.Front.{◌>>=◌}
-use Rattle.sstable_blocks.specs.declared.delta_reader.Standing.{Standing}
-use Rattle.sstable_blocks.specs.declared.delta_reader.Standing.TheVariants.{Between, AtEntry, Failed}
-use Rattle.sstable_blocks.specs.Values.{Values, Listed, Everywhere, value_at, HasPlace}
+use Rattle.sstable_blocks.specs.declared.entry_reader.Standing.{Standing}
+use Rattle.sstable_blocks.specs.declared.entry_reader.Standing.TheVariants.{Between, AtEntry, Ended, Failed}
+use Rattle.sstable_values.specs.Values.{Values, Listed, Everywhere, value_at, HasPlace}
 use Rattle.sstable_blocks.specs.Entries.{Entry}
-use Rattle.sstable_blocks.specs.DeltaReader.{if_current}
+use Rattle.sstable_blocks.specs.EntryReader.{if_current}
 use Rattle.sstable_blocks.specs.Delta.{keep_and_add_at}
 use Rattle.sstable_blocks.specs.BlockReader.{State, unread}
 use Rattle.sstable_blocks.specs.BlockSteps.{TakesDelta}
@@ -44,6 +44,7 @@ takes_delta old new keep add len begin end lens some long enough is_begin is_end
 -- A current entry has a value.
 pub has_place : {V : Type 0} (standing : Standing) (values : Values V) (i : ℕ) (entry : V → Option (Entry V)) → IsSome (if_current standing (value_at values i >>= entry)) → HasPlace values i
 has_place Between values i entry some = absurd (false≢true some)
+has_place Ended values i entry some = absurd (false≢true some)
 has_place (Failed e) values i entry some = absurd (false≢true some)
 has_place AtEntry (Everywhere value) i entry some = tt
 has_place {V} AtEntry (Listed values) i entry some = by_value (slice_get values i) refl some

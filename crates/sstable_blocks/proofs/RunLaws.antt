@@ -14,15 +14,15 @@ use Rattle.owned_bytes.proofs.Pieces.{Shrinks, Extends, pieces-step, pieces-exte
 use Rattle.std.proofs.Common.{map}
 use Rattle.std.specs.List.{zip}
 use Rattle.std.specs.Prelude.{◌||◌}
-use Rattle.sstable_blocks.specs.declared.errors.BlockError.TheVariants.{Corrupt, Compressed}
-use Rattle.sstable_blocks.specs.Codec.{Codec}
+use Rattle.sstable_values.specs.declared.errors.BlockError.TheVariants.{Corrupt, Compressed}
+use Rattle.sstable_values.specs.Codec.{Codec}
 use Rattle.sstable_blocks.specs.Content.{Found, content_after, block_at, block}
-use Rattle.sstable_blocks.specs.Values.{Values, Listed, Everywhere}
+use Rattle.sstable_values.specs.Values.{Values, Listed, Everywhere}
 use Rattle.sstable_blocks.specs.Delta.{Delta}
 use Rattle.sstable_blocks.specs.Block.{front_of_deltas, key_after, keys_after, keys_of, paired, block_of}
 use Rattle.sstable_blocks.specs.Entries.{last_or}
 use Rattle.sstable_blocks.specs.Run.{block_or_end, front_of_blocks, last_key, may_follow, key_before, Block, Run, blocks_after, whole_run_of, entries_of}
-use Rattle.sstable_blocks.proofs.RisingLaws.{provided-true}
+use Rattle.sstable_values.proofs.RisingLaws.{provided-true}
 use Rattle.sstable_blocks.proofs.BlockLaws.{no_fault, no_end, found-is}
 
 -- what a reader looks at before the content
@@ -34,7 +34,7 @@ tested-passed none cut ended found a b c =
     ap (λ t. tested t cut ended found) a ∙ ap (λ t. tested false t ended found) b ∙ ap (λ t. tested false false t found) c
 
 -- where a block stands in the table changes its fault alone
-front-placed : (p q : ℕ) (bytes : List ℕ) → block_or_end (block_at p bytes) ≡ block_or_end (block_at q bytes)
+pub front-placed : (p q : ℕ) (bytes : List ℕ) → block_or_end (block_at p bytes) ≡ block_or_end (block_at q bytes)
 unfolding block_at
 front-placed p q bytes = by_tests (length bytes == 0) (nat_lt (length bytes) 4) (nat_lt (from_le_bytes w32 (take 4 bytes)) 2) _ _ (of_content (from_le_bytes w32 (take 4 bytes) - 1) (drop 4 bytes))
   where

@@ -1,6 +1,7 @@
 -- What a writer gathered is a block, and the run grows by it.
-use Rattle.std.proofs.Common.{◌≡◌, ◌≢◌, ℕ, ◌+◌, ◌-◌, ◌^◌, ◌<◌, ◌≤◌, List, [], ◌∷◌, ◌++◌, length, drop, map, Bool, true, false, cond, Some, Result, Ok, Err, OnOk, subst, refl, ap, sym, ◌∙◌, arith, length-append, length-drop, append-nil}
-use Rattle.std.specs.Prelude.{nat_lt, nat_eq, unwrap_or}
+use Rattle.std.proofs.Common.{◌≡◌, ◌≢◌, ℕ, ◌+◌, ◌-◌, ◌^◌, ◌<◌, ◌≤◌, List, [], ◌∷◌, ◌++◌, length, drop, map, Bool, true, false, cond, Option, Some, None, Result, Ok, Err, OnOk, subst, refl, ap, sym, ◌∙◌, arith, length-append, length-drop, append-nil}
+use Rattle.std.specs.Prelude.{nat_lt, nat_eq, unwrap_or, min, MatchResult}
+use Rattle.std.proofs.Math.Nat.{le-min, min-le_right}
 use Rattle.std.specs.List.{flat_map, zip, AllByRecursion}
 use Rattle.std.specs.Ordering.{nat_cmp, ordering_then}
 use Rattle.std.specs.Cmp.Lexicographic.{slice_cmp}
@@ -12,27 +13,40 @@ use Rattle.std.proofs.lemmas.List.Sums.{common_prefix_len-le}
 use Rattle.owned_bytes.specs.Front.{◌>>=◌, provided, pieces}
 use Rattle.owned_bytes.specs.Keys.{Key, shared, is_below, is_less, is_rising}
 use Rattle.owned_bytes.proofs.Pieces.{bind_some, some_is}
-use Rattle.sstable_blocks.specs.Values.{Values, Listed, Everywhere, HasNone, Gains}
-use Rattle.sstable_blocks.specs.Codec.{Codec}
+use Rattle.sstable_values.specs.Values.{Values, Listed, Everywhere, Gains}
+use Rattle.sstable_values.specs.Codec.{Codec, everywhere_or_none, no_values}
 use Rattle.sstable_blocks.specs.Content.{block}
 use Rattle.sstable_blocks.specs.Delta.{Delta}
 use Rattle.sstable_blocks.specs.Block.{front_of_deltas, keys_of, paired, block_of, delta, delta_between, deltas_between}
 use Rattle.sstable_blocks.specs.Run.{last_key, may_follow, key_before, Block, whole_run_of, entries_of}
 use Rattle.sstable_blocks.specs.Writing.{WriterState, content, keys_in, IsOpen, IsNext}
-use Rattle.sstable_blocks.proofs.RisingLaws.{both-true, provided-true}
+use Rattle.sstable_values.proofs.RisingLaws.{both-true, provided-true}
 use Rattle.sstable_blocks.proofs.DeltaLaws.{Fits, deltas-again, keys_after-between}
 use Rattle.sstable_blocks.proofs.RunLaws.{run-more}
 
+-- a count goes on, to the greatest u64
+pub counted-on : (a b n : ℕ) → b ≡ min (a + n) (2 ^ 64 - 1) → a < 2 ^ 64 → (a ≤ b) × (b < 2 ^ 64)
+counted-on a b n e small =
+    let low : a ≤ min (a + n) (2 ^ 64 - 1) = le-min (omega arith) (omega (arith, small)) in
+    let high : min (a + n) (2 ^ 64 - 1) ≤ 2 ^ 64 - 1 = min-le_right (a + n) (2 ^ 64 - 1) in (rw e low, rw e (omega (arith, high)))
+
+pub counts-on : {T E : Type 0} (r : Result T E) (a b n : ℕ) → MatchResult r (λ _. b ≡ min (a + n) (2 ^ 64 - 1)) (λ _. b ≡ a) → a < 2 ^ 64 → (a ≤ b) × (b < 2 ^ 64)
+counts-on (Ok x) a b n e small = counted-on a b n e small
+counts-on (Err x) a b n e small = (omega (arith, e), omega (arith, e, small))
+
+pub on-and-on : (a b c : ℕ) → (a ≤ b) × (b < 2 ^ 64) → (b ≤ c) × (c < 2 ^ 64) → (a ≤ c) × (c < 2 ^ 64)
+on-and-on a b c first second = (omega (arith, first.0, second.0), second.1)
+
 -- no key and no value make no entry
-no_pairs : {V : Type 0} (values : Values V) → HasNone values → paired [] values ≡ Some []
+no_pairs : {V : Type 0} (one : Option V) → paired [] (everywhere_or_none one) ≡ Some []
 unfolding paired
-no_pairs (Listed values) none = ap (λ (vs : List _). provided (nat_eq 0 (length vs)) >>= (λ _. Some (zip [] vs))) none
-no_pairs (Everywhere value) none = refl
+no_pairs None = refl
+no_pairs (Some value) = refl
 
 -- an empty block
-pub open-none : {V : Type 0} (state : WriterState V) → state.deltas ≡ [] → HasNone state.values → IsOpen state []
+pub open-none : {W V : Type 0} (codec : Codec V) (state : WriterState W V) → state.deltas ≡ [] → state.values ≡ no_values codec → IsOpen state []
 unfolding deltas_between is_rising
-open-none state no_delta no_value = record { spelled = no_delta; rising = refl; paired = no_pairs state.values no_value }
+open-none codec state no_delta no_value = record { spelled = no_delta; rising = refl; paired = ap (paired []) no_value ∙ no_pairs codec.everywhere }
 
 -- the last of the keys, or the one before them
 last_from : Key → List Key → Key
@@ -77,7 +91,7 @@ paired-more {V} keys (Listed values) new entries key v e gains =
     zip-more (k ∷ keys) (x ∷ values) same = ap (λ es. (k, x) ∷ es) (zip-more keys values (omega arith))
 
 -- one more entry
-pub open-more : {V : Type 0} (old new : WriterState V) (entries : List (Key × V)) (keep : ℕ) (suffix : List ℕ) (key : Key) (v : V) → IsOpen old entries → IsNext entries keep suffix key
+pub open-more : {W V : Type 0} (old new : WriterState W V) (entries : List (Key × V)) (keep : ℕ) (suffix : List ℕ) (key : Key) (v : V) → IsOpen old entries → IsNext entries keep suffix key
     → new.deltas ≡ old.deltas ++ delta (record { keep = keep; suffix = suffix }) → Gains old.values v new.values → IsOpen new (entries ++ (key, v) ∷ [])
 open-more old new entries keep suffix key v is next more gains =
     let keys : keys_in (entries ++ (key, v) ∷ []) ≡ keys_in entries ++ key ∷ [] = map-append (λ entry. entry.0) entries ((key, v) ∷ []) in
@@ -97,13 +111,13 @@ open-more old new entries keep suffix key v is next more gains =
     }
 
 -- a key was added, and then its value
-pub entry_added : {V E : Type 0} (r : Result (Unit {0}) E) (old middle new : WriterState V) (keep : ℕ) (suffix : List ℕ) (v : V)
+pub entry_added : {W V E : Type 0} (r : Result (Unit {0}) E) (old middle new : WriterState W V) (keep : ℕ) (suffix : List ℕ) (v : V)
     → middle ≡ record old { deltas = old.deltas ++ delta (record { keep = keep; suffix = suffix }) } → new ≡ record middle { values = new.values } → OnOk r (Gains middle.values v new.values)
     → OnOk r ((entries : List (Key × V)) (key : Key) → IsOpen old entries → IsNext entries keep suffix key → IsOpen new (entries ++ (key, v) ∷ []))
-entry_added {V} (Ok x) old middle new keep suffix v first second gains =
+entry_added {W} {V} (Ok x) old middle new keep suffix v first second gains =
     λ entries key is next. open-more old new entries keep suffix key v is next
-    (ap (λ (s : WriterState V). s.deltas) second ∙ ap (λ (s : WriterState V). s.deltas) first)
-    (subst (λ vs. Gains vs v new.values) (ap (λ (s : WriterState V). s.values) first) gains)
+    (ap (λ (s : WriterState W V). s.deltas) second ∙ ap (λ (s : WriterState W V). s.deltas) first)
+    (subst (λ vs. Gains vs v new.values) (ap (λ (s : WriterState W V). s.values) first) gains)
 entry_added (Err e) old middle new keep suffix v first second gains = tt
 
 -- a key that comes later adds a byte
@@ -159,7 +173,7 @@ unfolding deltas_between
 deltas-none deltas e = e
 
 -- the open block is the block of its entries, whatever key comes before it
-pub block_written : {V : Type 0} (codec : Codec V) (state : WriterState V) (entries : List (Key × V)) (before : Key) → IsOpen state entries → state.deltas ≢ [] → length state.deltas < 2 ^ 64
+pub block_written : {W V : Type 0} (codec : Codec V) (state : WriterState W V) (entries : List (Key × V)) (before : Key) → IsOpen state entries → state.deltas ≢ [] → length state.deltas < 2 ^ 64
     → ((rest : List ℕ) → codec.values_of (codec.spelled state.values ++ rest) ≡ Some (state.values, rest)) → block_of codec before (content codec state) ≡ Some entries
 unfolding block_of
 block_written codec state [] before is some short again = absurd (some (deltas-none state.deltas is.spelled))
@@ -178,7 +192,7 @@ some_byte [] some = absurd (some refl)
 some_byte (b ∷ bytes) some = omega arith
 
 -- Behind a run that ends with the bytes, the open block is one more block of the run.
-pub run_written : {V : Type 0} (codec : Codec V) (state : WriterState V) → state.deltas ≢ [] → length (content codec state) + 1 < 2 ^ 32
+pub run_written : {W V : Type 0} (codec : Codec V) (state : WriterState W V) → state.deltas ≢ [] → length (content codec state) + 1 < 2 ^ 32
     → ((rest : List ℕ) → codec.values_of (codec.spelled state.values ++ rest) ≡ Some (state.values, rest))
     → (bytes : List ℕ) (blocks : List (Block V)) (entries : List (Key × V)) → IsOpen state entries → whole_run_of codec bytes ≡ Some (record { blocks = blocks; rest = [] })
     → may_follow (last_key (entries_of blocks)) entries ≡ true

@@ -3,9 +3,9 @@ use Rattle.std.specs.Prelude.{ℕ, ◌+◌, ◌*◌, List, [], ◌∷◌, ◌++�
 use Rattle.std.specs.List.{zip}
 use Rattle.owned_bytes.specs.Keys.{Key, is_below, shared}
 use Rattle.owned_bytes.specs.Front.{◌>>=◌, provided, Front, End, piece_or_fault, pieces}
-use Rattle.sstable_blocks.specs.Vint.{vint}
-use Rattle.sstable_blocks.specs.Values.{Values, Listed, Everywhere}
-use Rattle.sstable_blocks.specs.Codec.{Codec}
+use Rattle.sstable_values.specs.Vint.{vint}
+use Rattle.sstable_values.specs.Values.{Values, Listed, Everywhere}
+use Rattle.sstable_values.specs.Codec.{Codec}
 use Rattle.sstable_blocks.specs.Delta.{Delta}
 unfoldable use Rattle.sstable_blocks.specs.Delta.{delta_at}
 

@@ -1,20 +1,20 @@
 -- What the parts of a step over entries do to a reader of blocks.
-use Rattle.std.specs.Prelude.{◌≡◌, ℕ, ◌+◌, ◌≤◌, [], length, Option, Some, None, Result, Ok, Err, Bool, true, false, slice_range}
-use Rattle.sstable_blocks.specs.declared.errors.BlockError.{BlockError}
-use Rattle.sstable_blocks.specs.Values.{Values}
-use Rattle.sstable_blocks.specs.Codec.{Codec}
+use Rattle.std.specs.Prelude.{◌≡◌, ℕ, ◌+◌, ◌≤◌, length, Some, None, Result, Ok, Err, Bool, true, false, slice_range}
+use Rattle.sstable_values.specs.declared.errors.BlockError.{BlockError}
+use Rattle.sstable_values.specs.Values.{Values}
+use Rattle.sstable_values.specs.Codec.{Codec}
 use Rattle.sstable_blocks.specs.BlockReader.{State, unread}
+use Rattle.sstable_blocks.specs.Content.{head_len}
 unfoldable use Rattle.sstable_blocks.specs.Content.{block_at}
 unfoldable use Rattle.sstable_blocks.specs.Delta.{delta_at}
 use Rattle.sstable_blocks.specs.Entries.{Walk, MemoryOr, to_block}
 
--- Into the next block, whose values are read.
+-- Into the next block of a slice, whose values are read.
 abbrev pub EntersBlock : {V : Type 0} → Codec V → State → State → Values V → Values V → Result Bool BlockError → Type 0
 EntersBlock codec old new before values (Ok true) =
     (block_at old.place old.rest ≡ Ok (Some (new.block, new.rest))) × (codec.values_of new.block ≡ Some (values, unread new))
-    × (new.place ≡ old.place + (5 + length new.block))
-EntersBlock codec old new before values (Ok false) =
-    (block_at old.place old.rest ≡ Ok None) × (new ≡ record old { block = []; offset = 0 }) × (values ≡ before)
+    × (new.place ≡ old.place + (head_len + length new.block)) × (new.more ≡ old.more) × (new.ordinal ≡ old.ordinal)
+EntersBlock codec old new before values (Ok false) = (block_at old.place old.rest ≡ Ok None) × (new ≡ old) × (values ≡ before)
 EntersBlock {V} codec old new before values (Err e) =
     MemoryOr e ((walk : Walk V) → to_block codec walk (block_at old.place old.rest) ≡ Err e)
 
@@ -25,8 +25,3 @@ pub record TakesDelta (old new : State) (keep begin end : ℕ) : Type 0 where
   pub within : end ≤ length new.block
   pub shorter : 1 + length (unread new) ≤ length (unread old)
   pub same : new ≡ record old { offset = new.offset }
-
--- there are no more values than were given
-abbrev pub IsUsedUp : Option ℕ → ℕ → Type 0
-IsUsedUp None given = ⊥
-IsUsedUp (Some count) given = count ≤ given

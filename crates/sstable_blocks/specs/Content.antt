@@ -1,8 +1,8 @@
 -- The block at the front of some bytes.
 use Rattle.std.specs.Prelude.{ℕ, ◌+◌, ◌-◌, List, [], ◌∷◌, ◌++◌, length, take, drop, Option, Some, None, Result, Ok, Err, nat_lt, not, ◌==◌, if◌then◌else◌}
 use Rattle.std.specs.Int.{w32, from_le_bytes, to_le_bytes}
-use Rattle.sstable_blocks.specs.declared.errors.BlockError.{BlockError}
-use Rattle.sstable_blocks.specs.declared.errors.BlockError.TheVariants.{Corrupt, Compressed}
+use Rattle.sstable_values.specs.declared.errors.BlockError.{BlockError}
+use Rattle.sstable_values.specs.declared.errors.BlockError.TheVariants.{Corrupt, Compressed}
 
 -- What stands at the front: a block's content with the bytes after the block, the end of the blocks, or a fault.
 abbrev pub Found : Type 0
@@ -25,6 +25,10 @@ block_at place bytes =
     else (if nat_lt (length bytes) 4 then Err Corrupt
     else (if nat_lt (from_le_bytes w32 (take 4 bytes)) 2 then Ok None
     else content_after place (from_le_bytes w32 (take 4 bytes) - 1) (drop 4 bytes)))
+
+-- a block's length word and its compress byte
+abbrev pub head_len : ℕ
+head_len = 5
 
 -- how a block is written
 abbrev pub block : List ℕ → List ℕ

@@ -2,7 +2,7 @@
 use Rattle.std.specs.Prelude.{ℕ, ◌/◌, ◌%◌, List, [], ◌∷◌, Some, None, ◌==◌, if◌then◌else◌}
 use Rattle.owned_bytes.specs.Front.{Reading, bytes_at}
 use Rattle.owned_bytes.specs.Reader.{◌>>=◌, give}
-use Rattle.sstable_blocks.specs.Vint.{vint_at}
+use Rattle.sstable_values.specs.Vint.{vint_at}
 
 -- how many bytes of the key before are kept, and the bytes that follow them
 pub record Delta : Type 0 where

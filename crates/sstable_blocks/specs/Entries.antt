@@ -1,12 +1,12 @@
 -- How a reader goes over the entries of blocks.
-use Rattle.std.specs.Prelude.{◌≡◌, ℕ, ◌+◌, List, [], ◌∷◌, ◌++◌, length, unwrap_or, Option, Some, None, is_none, Result, Ok, Err, Bool, true, false, ◌⊎◌}
-use Rattle.owned_bytes.specs.Front.{◌>>=◌, provided, pieces}
+use Rattle.std.specs.Prelude.{◌≡◌, ℕ, ◌+◌, List, [], ◌∷◌, ◌++◌, length, unwrap_or, Option, Some, None, Result, Ok, Err, ◌⊎◌}
+use Rattle.owned_bytes.specs.Front.{◌>>=◌, pieces}
 use Rattle.owned_bytes.specs.Keys.{Key, shared}
-use Rattle.sstable_blocks.specs.declared.errors.BlockError.{BlockError}
-use Rattle.sstable_blocks.specs.declared.errors.BlockError.TheVariants.{Memory, Corrupt}
-use Rattle.sstable_blocks.specs.Values.{Values, value_at, values_from, HasNone}
-use Rattle.sstable_blocks.specs.Codec.{Codec}
-use Rattle.sstable_blocks.specs.Content.{Found}
+use Rattle.sstable_values.specs.declared.errors.BlockError.{BlockError}
+use Rattle.sstable_values.specs.declared.errors.BlockError.TheVariants.{Memory, Corrupt}
+use Rattle.sstable_values.specs.Values.{Values, value_at, values_from}
+use Rattle.sstable_values.specs.Codec.{Codec, no_values}
+use Rattle.sstable_blocks.specs.Content.{Found, head_len}
 unfoldable use Rattle.sstable_blocks.specs.Content.{block_at}
 use Rattle.sstable_blocks.specs.Delta.{Delta}
 unfoldable use Rattle.sstable_blocks.specs.Delta.{delta_at}
@@ -22,8 +22,6 @@ pub record Entry (V : Type 0) : Type 0 where
 pub record Walk (V : Type 0) : Type 0 where
   -- the current entry, where there is one
   pub current : Option (Entry V)
-  -- the error that it answers for good
-  pub failed : Option BlockError
   -- the values of its block, and how many entries of the block it gave
   pub values : Values V
   pub given : ℕ
@@ -34,10 +32,9 @@ pub record Walk (V : Type 0) : Type 0 where
   pub place : ℕ
 
 -- a reader that gave no entry yet
-pub record IsFresh {V : Type 0} (walk : Walk V) (reader : List ℕ) (at : ℕ) : Type 0 where
+pub record IsFresh {V : Type 0} (codec : Codec V) (walk : Walk V) (reader : List ℕ) (at : ℕ) : Type 0 where
   pub no_entry : walk.current ≡ None
-  pub no_error : walk.failed ≡ None
-  pub no_value : HasNone walk.values
+  pub no_value : walk.values ≡ no_values codec
   pub none_given : walk.given ≡ 0
   pub no_delta : walk.deltas ≡ []
   pub bytes : walk.rest ≡ reader
@@ -73,31 +70,21 @@ abbrev pub to_block : {V : Type 0} → Codec V → Walk V → Found → Step V
 to_block codec walk (Err e) = Err e
 to_block codec walk (Ok None) = Ok None
 to_block codec walk (Ok (Some found)) =
-    to_first (record walk { rest = found.1; place = walk.place + (5 + length found.0) }) (codec.values_of found.0)
+    to_first (record walk { rest = found.1; place = walk.place + (head_len + length found.0) }) (codec.values_of found.0)
 
 -- to the next entry: in the block as long as it has bytes left, and then in the next block
 abbrev pub onward : {V : Type 0} → Codec V → Walk V → List ℕ → Step V
 onward codec walk [] = to_block codec walk (block_at walk.place walk.rest)
 onward codec walk (b ∷ bytes) = within_block walk
 
--- the step that a reader takes; after an error it answers that one
-abbrev pub step_from : {V : Type 0} → Codec V → Walk V → Option BlockError → Step V
-step_from codec walk (Some e) = Err e
-step_from codec walk None = onward codec walk walk.deltas
-
+-- the step that a reader takes
 abbrev pub step : {V : Type 0} → Codec V → Walk V → Step V
-step codec walk = step_from codec walk walk.failed
+step codec walk = onward codec walk walk.deltas
 
 -- it comes by this, or is want of memory
 abbrev pub MemoryOr : BlockError → Type 0 → Type 0
 MemoryOr Memory P = Unit {0}
 MemoryOr e P = P
-
--- What a call did that takes a step. At the end it stays where it is, and after an error each later step answers that.
-abbrev pub Advances : {V : Type 0} → Codec V → Walk V → Walk V → Result Bool BlockError → Type 0
-Advances codec old new (Ok true) = step codec old ≡ Ok (Some new)
-Advances codec old new (Ok false) = (step codec old ≡ Ok None) × (new ≡ record old { current = None })
-Advances codec old new (Err e) = MemoryOr e (step codec old ≡ Err e) × (new.failed ≡ Some e) × (new.current ≡ None)
 
 -- the last key of these entries, or else the key before them
 abbrev pub last_or : {V : Type 0} → Option Key → List (Key × V) → Option Key
@@ -105,10 +92,9 @@ last_or before [] = before
 last_or before (entry ∷ entries) = last_key (entry ∷ entries)
 
 -- The entries that are still to come after the key of the current entry, where there is one: those of its block, and
--- those of the run that follows. None are where that is no run, or an error came.
+-- those of the run that follows. None are where that is no run.
 unfoldable pub entries_left : {V : Type 0} → Codec V → Option Key → Walk V → Option (List (Key × V))
 entries_left codec before walk = do
-  _ ← provided (is_none walk.failed)
   deltas ← pieces front_of_deltas walk.deltas
   keys ← keys_after (unwrap_or before []) deltas.0
   here ← paired keys (values_from walk.given walk.values)
@@ -127,9 +113,3 @@ pub record TakesFirst {V : Type 0} (codec : Codec V) (before : Option Key) (entr
   -- what the key keeps is all that it shares with the key before, or nothing where a block begins
   pub keeps : (entry.delta.keep ≡ 0) ⊎ (entry.delta.keep ≡ shared (unwrap_or before []) key)
   pub left : entries_left codec (Some key) new ≡ Some others
-
--- what a call gave of the entries that were to come
-abbrev pub GivesFirst : {V : Type 0} → Codec V → Option Key → List (Key × V) → Walk V → Result Bool BlockError → Type 0
-GivesFirst codec before entries new (Ok true) = TakesFirst codec before entries new
-GivesFirst codec before entries new (Ok false) = (entries ≡ []) × (entries_left codec before new ≡ Some [])
-GivesFirst codec before entries new (Err e) = e ≡ Memory

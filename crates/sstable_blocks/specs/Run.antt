@@ -3,7 +3,7 @@ use Rattle.std.specs.Prelude.{List, [], ◌∷◌, unwrap_or, Bool, true, false,
 use Rattle.std.specs.List.{flat_map}
 use Rattle.owned_bytes.specs.Front.{◌>>=◌, provided, Front, End, Piece, Fault, pieces}
 use Rattle.owned_bytes.specs.Keys.{Key, is_below}
-use Rattle.sstable_blocks.specs.Codec.{Codec}
+use Rattle.sstable_values.specs.Codec.{Codec}
 use Rattle.sstable_blocks.specs.Content.{Found}
 unfoldable use Rattle.sstable_blocks.specs.Content.{block_at}
 use Rattle.sstable_blocks.specs.Block.{block_of}

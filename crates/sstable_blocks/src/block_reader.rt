@@ -1,15 +1,18 @@
-// Blocks, one after the other.
-ghost use Rattle.std.specs.Prelude.{◌≡◌, ◌<◌, ◌≤◌, ◌+◌, ◌^◌, [], ◌++◌, length, take, drop, min, Some, None, OnOk, OnErr, IfOk, IfErr, slice_range};
-ghost use Rattle.sstable_blocks.specs.Vint.{vint_at};
+// Reading blocks one after the other.
+ghost use Rattle.std.specs.Prelude.{◌≡◌, ◌≢◌, true, Ok, ◌<◌, ◌≤◌, ◌+◌, ◌^◌, [], ◌++◌, length, take, drop, min, Some, None, OnOk, OnErr, IfOk, IfErr, IsTrue, slice_range};
+ghost use Rattle.sstable_values.specs.Vint.{vint_at};
 ghost use Rattle.sstable_blocks.specs.Content.{block_at};
-ghost use Rattle.sstable_blocks.specs.BlockReader.{IsFound, ReadsBlock, unread};
+ghost use Rattle.sstable_blocks.specs.BlockReader.{IsFound, ReadsBlock, AreWithin, behind, before_bytes, before_slices, unread, bytes_of};
 
-use crate::errors::BlockError;
-use crate::vint;
 use owned_bytes::OwnedBytes;
+use sstable_values::{BlockError, vint};
 use std::alloc::{AllocError, Global};
 use std::marker::Model;
 use std::ops::Range;
+use std::vec::IntoIter;
+
+// A block's length word and its compress byte.
+const HEAD_LEN: usize = 5;
 
 // The content of the block at the front and the bytes after it, its length word at the place.
 #[tactic(auto, unfolding(crate::specs::Content::block_at))]
@@ -40,7 +43,15 @@ fn block_front(place: u64, bytes: &[u8]) -> Result<Option<(&[u8], &[u8])>, Block
     }
 }
 
-/// Reads blocks one after the other. It takes them where they lie, and copies nothing.
+/// A part of a table's blocks: its bytes, the position of its first entry, and where it starts in the table.
+#[derive(Drop)]
+pub struct BlockSlice {
+    pub bytes: OwnedBytes,
+    pub first_ordinal: u64,
+    pub start: u64,
+}
+
+/// Reads the blocks of slices one after the other. It takes them where they lie, and copies nothing.
 #[derive(Drop)]
 pub struct BlockReader {
     reader: OwnedBytes,
@@ -48,37 +59,100 @@ pub struct BlockReader {
     begin: usize,
     at: usize,
     next: usize,
+    next_slices: IntoIter<BlockSlice>,
+    // of the slice that it came to last, as long as that wasn't asked for
+    first_ordinal: Option<u64>,
 }
 
 impl Model for BlockReader {
     ghost use Rattle.std.specs.Prelude.{◌+◌, ◌-◌, length, take, drop};
+    ghost use Rattle.std.specs.Vec.Iter.{into_iter_items};
     ghost use Rattle.sstable_blocks.specs.BlockReader.{State, InOrder};
 
     ghost Value = { State };
 
-    ghost view = { λ r. record { block = take (r.next - r.begin) (drop r.begin r.reader); offset = r.at - r.begin; rest = drop r.next r.reader; place = r.start + r.next } };
+    ghost view = { λ r. record {
+      block = take (r.next - r.begin) (drop r.begin r.reader);
+      offset = r.at - r.begin;
+      rest = drop r.next r.reader;
+      place = r.start + r.next;
+      more = into_iter_items r.next_slices;
+      ordinal = r.first_ordinal;
+    } };
 
-    ghost invariant = { λ r. InOrder r.start r.begin r.at r.next (length r.reader) };
+    ghost invariant = { λ r. InOrder r.start r.begin r.at r.next (length r.reader) (into_iter_items r.next_slices) };
 }
 
 impl BlockReader {
     /// A reader before the first block. `start` is where the bytes stand in the table.
     pub fn new(alloc: Global, reader: OwnedBytes, start: u64) -> BlockReader
         requires { start + length reader < 2 ^ 64 }
-        ensures { result ≡ record { block = []; offset = 0; rest = reader; place = start } }
+        ensures { result ≡ before_bytes reader start }
     {
-        let _ = alloc;
         BlockReader {
             reader,
             start,
             begin: 0,
             at: 0,
             next: 0,
+            next_slices: Vec::new(alloc).into_iter(),
+            first_ordinal: None,
         }
     }
 
-    /// Goes to the next block; false at the end of the bytes, or at a length word of 0 or 1.
-    pub fn read_block(&mut self) -> Result<bool, BlockError>
+    /// A reader before the first block of the first slice.
+    pub fn from_multiple_blocks(alloc: Global, readers: Vec<BlockSlice>) -> BlockReader
+        requires { AreWithin readers.items }
+        ensures { result ≡ before_slices readers.items }
+    {
+        let mut next_slices = readers.into_iter();
+        match next_slices.next() {
+            None => BlockReader::new(alloc, OwnedBytes::empty(alloc).unwrap(), 0),
+            Some(slice) => BlockReader {
+                reader: slice.bytes,
+                start: slice.start,
+                begin: 0,
+                at: 0,
+                next: 0,
+                next_slices,
+                first_ordinal: Some(slice.first_ordinal),
+            },
+        }
+    }
+
+    /// The first ordinal of the slice that the reader came to last. It answers it once.
+    pub fn take_first_ordinal(&mut self) -> Option<u64>
+        ensures value { result ≡ self.old.ordinal }
+        ensures taken { self.new ≡ record self.old { ordinal = None } }
+    {
+        let first_ordinal = self.first_ordinal;
+        self.first_ordinal = None;
+        first_ordinal
+    }
+
+    // Goes behind the block, and on to the next slice as long as nothing is left of this one.
+    fn leave_block(&mut self)
+        ensures { self.new ≡ behind self.old }
+    {
+        self.begin = self.next;
+        self.at = self.next;
+        while self.next == self.reader.len() {
+            let Some(slice) = self.next_slices.next() else {
+                break;
+            };
+            self.reader = slice.bytes;
+            self.start = slice.start;
+            self.begin = 0;
+            self.at = 0;
+            self.next = 0;
+            self.first_ordinal = Some(slice.first_ordinal);
+        }
+    }
+
+    // Goes to the block that stands next in the slice; false at the end of its blocks.
+    fn enter_block(&mut self) -> Result<bool, BlockError>
+        requires none { self.old.block ≡ [] }
+        requires unread { self.old.offset ≡ 0 }
         ensures read { ReadsBlock self.old self.new result }
         ensures placed { self.new.place < 2 ^ 64 }
     {
@@ -90,10 +164,23 @@ impl BlockReader {
             Ok(None) => return Ok(false),
             Ok(Some((content, _rest))) => content.len(),
         };
-        self.begin += 5;
+        self.begin += HEAD_LEN;
         self.at = self.begin;
-        self.next += 5 + len;
+        self.next += HEAD_LEN + len;
         Ok(true)
+    }
+
+    /// Goes to the next block, of this slice or of one after it; false at the end of the last one, or at a length word of
+    /// 0 or 1.
+    pub fn read_block(&mut self) -> Result<bool, BlockError>
+        ensures read { ReadsBlock (behind self.old) self.new result }
+        ensures placed { self.new.place < 2 ^ 64 }
+        // At the end and with an error each later call begins at the same place, and so answers the same.
+        ensures for_good { result ≢ Ok true → behind self.new ≡ self.new }
+        ensures falls { IfOk result (λ more. IsTrue more → bytes_of self.new < bytes_of self.old) }
+    {
+        self.leave_block();
+        self.enter_block()
     }
 
     /// Takes a `vint` off the front of what is left of the block.

@@ -1,16 +1,19 @@
-// Entries, gathered and written out as blocks.
-ghost use Rattle.std.specs.Prelude.{◌≡◌, ◌<◌, ◌≤◌, ◌+◌, ◌-◌, ◌^◌, min, List, ℕ, [], ◌∷◌, ◌++◌, length, take, false, Option, Some, Err, Ok, None, OnOk, OnErr, OnSome, IfOk, IfErr, IsTrue, true};
-ghost use Rattle.owned_bytes.specs.Outside.{WritesAll, HasCause};
+// Gathering the entries of blocks, and writing these out.
+ghost use Rattle.std.specs.Prelude.{◌≡◌, ◌<◌, ◌≤◌, ◌+◌, ◌^◌, [], ◌++◌, length, take, Err, Ok, None, OnOk, OnErr, OnSome, IfOk, IfErr, IsTrue};
+ghost use Rattle.owned_bytes.specs.Outside.{HasCause};
 ghost use Rattle.common_wire.specs.Counting.{inner_sink, bytes_counted};
+ghost use Rattle.sstable_values.specs.Writes.{AreReadAgain};
+ghost use Rattle.sstable_blocks.specs.Counted.{WritesThrough, CausedBelow, CountsMore, CountsOn};
 ghost use Rattle.sstable_blocks.specs.Content.{block};
 ghost use Rattle.sstable_blocks.specs.Block.{delta};
+ghost use Rattle.sstable_blocks.specs.Writing.{length_limit};
 
-use crate::errors::{DeltaError, ValueError};
-use crate::value::ValueWriter;
-use crate::vint;
+use crate::errors::DeltaError;
 use common_wire::CountingWriter;
 use owned_bytes::{Sink, SinkError};
+use sstable_values::{ValueError, ValueWriter, vint};
 use std::alloc::{AllocError, Global};
+use std::marker::Model;
 use std::ops::Range;
 
 // The length that a block's deltas may have before it is closed.
@@ -51,9 +54,10 @@ fn write_both<W: Sink>(
     first: &[u8],
     second: &[u8],
 ) -> Result<(), SinkError>
-    ensures bytes { WritesAll (W.written (inner_sink sink.old)) (W.written (inner_sink sink.new)) result (first.now ++ second.now) }
-    ensures cause { HasCause (W.faults (inner_sink sink.old)) (W.faults (inner_sink sink.new)) (result ≡ Err SinkError.Failed) }
-    ensures count { OnOk result (bytes_counted sink.new ≡ min (bytes_counted sink.old + (length first.now + length second.now)) (2 ^ 64 - 1)) }
+    ensures bytes { WritesThrough W.written sink.old sink.new result (first.now ++ second.now) }
+    ensures cause { CausedBelow W.faults sink.old sink.new (result ≡ Err SinkError.Failed) }
+    ensures count { OnOk result (CountsMore sink.old sink.new (length first.now + length second.now)) }
+    ensures later { CountsOn sink.old sink.new }
 {
     sink.write_all(first)?;
     sink.write_all(second)
@@ -65,10 +69,11 @@ fn write_block<W: Sink>(
     values: &[u8],
     deltas: &[u8],
 ) -> Result<(), SinkError>
-    requires { length values.now + length deltas.now + 1 < 2 ^ 32 }
-    ensures bytes { WritesAll (W.written (inner_sink sink.old)) (W.written (inner_sink sink.new)) result (block (values.now ++ deltas.now)) }
-    ensures cause { HasCause (W.faults (inner_sink sink.old)) (W.faults (inner_sink sink.new)) (result ≡ Err SinkError.Failed) }
-    ensures count { OnOk result (bytes_counted sink.new ≡ min (bytes_counted sink.old + length (block (values.now ++ deltas.now))) (2 ^ 64 - 1)) }
+    requires { length values.now + length deltas.now + 1 < length_limit }
+    ensures bytes { WritesThrough W.written sink.old sink.new result (block (values.now ++ deltas.now)) }
+    ensures cause { CausedBelow W.faults sink.old sink.new (result ≡ Err SinkError.Failed) }
+    ensures count { OnOk result (CountsMore sink.old sink.new (length (block (values.now ++ deltas.now)))) }
+    ensures later { CountsOn sink.old sink.new }
 {
     let len = (values.len() + deltas.len() + 1) as u32;
     let [a, b, c, d] = len.to_le_bytes();
@@ -76,9 +81,21 @@ fn write_block<W: Sink>(
     write_both(sink, values, deltas)
 }
 
-/// Gathers entries and writes them out as blocks.
+// Puts the bytes of a writer's values into the buffer.
+fn serialize_values<T: ValueWriter>(
+    value_writer: &T,
+    buffer: &mut Vec<u8>,
+) -> Result<(), AllocError>
+    ensures ok { OnOk result (buffer.new.items ≡ T.codec.spelled (T.written value_writer.now)) }
+    ensures again { OnOk result (AreReadAgain T.codec (T.written value_writer.now)) }
+{
+    buffer.clear();
+    value_writer.serialize_block(buffer)
+}
+
+/// Gathers entries and writes them out as blocks. Contracts see the open block and the sink.
 #[derive(Drop)]
-pub struct DeltaWriter<W, T> {
+pub struct DeltaWriter<W: Sink, T: ValueWriter> {
     block: Vec<u8>,
     write: CountingWriter<W>,
     value_writer: T,
@@ -87,20 +104,39 @@ pub struct DeltaWriter<W, T> {
     block_len: usize,
 }
 
+impl<W: Sink, T: ValueWriter> Model for DeltaWriter<W, T> {
+    ghost use Rattle.common_wire.specs.Counting.{inner_sink, bytes_counted};
+    ghost use Rattle.sstable_blocks.specs.Writing.{WriterState};
+
+    ghost Value = { WriterState W T.Value.Shown };
+
+    ghost view = { λ writer. record {
+      deltas = writer.block.items;
+      values = T.written writer.value_writer;
+      block_len = writer.block_len;
+      sink = inner_sink writer.write;
+      written = W.written (inner_sink writer.write);
+      faults = W.faults (inner_sink writer.write);
+      counted = bytes_counted writer.write;
+    } };
+}
+
 impl<W: Sink, T: ValueWriter + Drop> DeltaWriter<W, T> {
-    ghost use Rattle.owned_bytes.specs.Keys.{Key};
-    ghost use Rattle.sstable_blocks.specs.Values.{Gains, HasNone};
-    ghost use Rattle.sstable_blocks.specs.Writing.{IsOpen, IsNext, Flushes, AddsToRun};
-    ghost use Rattle.sstable_blocks.specs.DeltaWriter.{state, sink_of};
+    ghost use Rattle.sstable_values.specs.Values.{Gains};
+    ghost use Rattle.sstable_values.specs.Codec.{no_values};
+    ghost use Rattle.sstable_values.specs.Writes.{RefusesValue};
+    ghost use Rattle.sstable_blocks.specs.Writing.{default_block_len, with_delta, IsOpen, AddsEntry, Flushes, AddsToRun};
 
     /// A writer with an empty block, which is closed once its deltas have more than 4,000 bytes.
     pub fn new(alloc: Global, wrt: W) -> Self
-        ensures sink { sink_of result ≡ wrt }
-        ensures counted { (state T.written W.written W.faults result).counted ≡ 0 }
-        ensures block_len { (state T.written W.written W.faults result).block_len ≡ 4000 }
-        ensures no_delta { (state T.written W.written W.faults result).deltas ≡ [] }
-        ensures no_value { HasNone (state T.written W.written W.faults result).values }
-        ensures entries { IsOpen (state T.written W.written W.faults result) [] }
+        ensures sink { result.sink ≡ wrt }
+        ensures written { result.written ≡ W.written wrt }
+        ensures faults { result.faults ≡ W.faults wrt }
+        ensures counted { result.counted ≡ 0 }
+        ensures block_len { result.block_len ≡ default_block_len }
+        ensures no_delta { result.deltas ≡ [] }
+        ensures no_value { result.values ≡ no_values T.codec }
+        ensures entries { IsOpen result [] }
     {
         DeltaWriter {
             block: Vec::new(alloc),
@@ -113,7 +149,7 @@ impl<W: Sink, T: ValueWriter + Drop> DeltaWriter<W, T> {
 
     /// Sets the length that a block's deltas may have before it is closed.
     pub fn set_block_len(&mut self, block_len: usize)
-        ensures { let old = state T.written W.written W.faults self.old in let new = state T.written W.written W.faults self.new in new ≡ record old { block_len = block_len } }
+        ensures { self.new ≡ record self.old { block_len = block_len } }
     {
         self.block_len = block_len;
     }
@@ -124,19 +160,19 @@ impl<W: Sink, T: ValueWriter + Drop> DeltaWriter<W, T> {
         common_prefix_len: usize,
         suffix: &[u8],
     ) -> Result<(), AllocError>
-        ensures ok { let old = state T.written W.written W.faults self.old in let new = state T.written W.written W.faults self.new in OnOk result (new ≡ record old { deltas = old.deltas ++ delta (record { keep = common_prefix_len; suffix = suffix.now }) }) }
-        ensures err { let old = state T.written W.written W.faults self.old in let new = state T.written W.written W.faults self.new in OnErr result (new ≡ old) }
+        ensures ok { OnOk result (self.new ≡ with_delta self.old common_prefix_len suffix.now) }
+        ensures err { OnErr result (self.new ≡ self.old) }
     {
         push_delta(&mut self.block, common_prefix_len, suffix)
     }
 
     /// Adds a value to the open block. An error changes nothing.
     pub fn write_value(&mut self, value: &T::Value) -> Result<(), ValueError>
-        ensures ok { let old = state T.written W.written W.faults self.old in let new = state T.written W.written W.faults self.new in OnOk result (Gains old.values (T.Value.shown value.now) new.values) }
-        ensures accepted { let old = state T.written W.written W.faults self.old in OnOk result (IsTrue (T.may_follow old.values (T.Value.shown value.now))) }
-        ensures refused { let old = state T.written W.written W.faults self.old in IfErr result (λ e. e ≡ ValueError.Refused → T.may_follow old.values (T.Value.shown value.now) ≡ false) }
-        ensures others { let old = state T.written W.written W.faults self.old in let new = state T.written W.written W.faults self.new in new ≡ record old { values = new.values } }
-        ensures err { let old = state T.written W.written W.faults self.old in let new = state T.written W.written W.faults self.new in OnErr result (new ≡ old) }
+        ensures ok { OnOk result (Gains self.old.values (T.Value.shown value.now) self.new.values) }
+        ensures accepted { OnOk result (IsTrue (T.codec.accepts self.old.values (T.Value.shown value.now))) }
+        ensures refused { IfErr result (RefusesValue T.codec self.old.values (T.Value.shown value.now)) }
+        ensures others { self.new ≡ record self.old { values = self.new.values } }
+        ensures err { OnErr result (self.new ≡ self.old) }
     {
         self.value_writer.write(value)
     }
@@ -148,13 +184,14 @@ impl<W: Sink, T: ValueWriter + Drop> DeltaWriter<W, T> {
         suffix: &[u8],
         value: &T::Value,
     ) -> Result<(), ValueError>
-        ensures key { let old = state T.written W.written W.faults self.old in let new = state T.written W.written W.faults self.new in OnOk result (new.deltas ≡ old.deltas ++ delta (record { keep = common_prefix_len; suffix = suffix.now })) }
-        ensures value { let old = state T.written W.written W.faults self.old in let new = state T.written W.written W.faults self.new in OnOk result (Gains old.values (T.Value.shown value.now) new.values) }
-        ensures accepted { let old = state T.written W.written W.faults self.old in OnOk result (IsTrue (T.may_follow old.values (T.Value.shown value.now))) }
-        ensures refused { let old = state T.written W.written W.faults self.old in IfErr result (λ e. e ≡ ValueError.Refused → T.may_follow old.values (T.Value.shown value.now) ≡ false) }
-        ensures others { let old = state T.written W.written W.faults self.old in let new = state T.written W.written W.faults self.new in new ≡ record old { deltas = new.deltas; values = new.values } }
-        ensures err { let old = state T.written W.written W.faults self.old in let new = state T.written W.written W.faults self.new in OnErr result (new ≡ old) }
-        ensures entries { let old = state T.written W.written W.faults self.old in let new = state T.written W.written W.faults self.new in OnOk result ((entries : List (Key × T.Value.Shown)) (key : Key) → IsOpen old entries → IsNext entries common_prefix_len suffix.now key → IsOpen new (entries ++ (key, T.Value.shown value.now) ∷ [])) }
+        ensures key { OnOk result (self.new.deltas ≡ (with_delta self.old common_prefix_len suffix.now).deltas) }
+        ensures value { OnOk result (Gains self.old.values (T.Value.shown value.now) self.new.values) }
+        ensures accepted { OnOk result (IsTrue (T.codec.accepts self.old.values (T.Value.shown value.now))) }
+        ensures refused { IfErr result (RefusesValue T.codec self.old.values (T.Value.shown value.now)) }
+        ensures others { self.new ≡ record self.old { deltas = self.new.deltas; values = self.new.values } }
+        ensures err { OnErr result (self.new ≡ self.old) }
+        ensures fits { length self.new.deltas < 2 ^ 64 }
+        ensures entries { OnOk result (AddsEntry self.old self.new common_prefix_len suffix.now (T.Value.shown value.now)) }
     {
         let len = self.block.len();
         self.write_suffix(common_prefix_len, suffix)?;
@@ -165,32 +202,20 @@ impl<W: Sink, T: ValueWriter + Drop> DeltaWriter<W, T> {
         written
     }
 
-    // Puts the bytes of the open block's values into the buffer.
-    fn serialize_values(&mut self) -> Result<(), AllocError>
-        ensures ok { OnOk result (self.new.stateless_buffer.items ≡ T.codec.spelled (T.written self.old.value_writer)) }
-        ensures again { OnOk result ((rest : List ℕ) → T.codec.values_of (T.codec.spelled (T.written self.old.value_writer) ++ rest) ≡ Some (T.written self.old.value_writer, rest)) }
-        ensures others { let old = state T.written W.written W.faults self.old in let new = state T.written W.written W.faults self.new in new ≡ old }
-        ensures block { self.new.block ≡ self.old.block }
-    {
-        self.stateless_buffer.clear();
-        self.value_writer
-            .serialize_block(&mut self.stateless_buffer)
-    }
-
     /// Writes out the open block, and answers its place by the count of the sink; `None` where it has no delta.
     /// After `Write`, or `Memory` of the sink, a prefix of the block was written, and it stays open as it was.
     pub fn flush_block(&mut self) -> Result<Option<Range<u64>>, DeltaError>
-        ensures flushes { let old = state T.written W.written W.faults self.old in let new = state T.written W.written W.faults self.new in Flushes T.codec old new result }
-        ensures cause { let old = state T.written W.written W.faults self.old in let new = state T.written W.written W.faults self.new in HasCause old.faults new.faults (result ≡ Err DeltaError.Write) }
+        ensures flushes { Flushes T.codec self.old self.new result }
+        ensures cause { HasCause self.old.faults self.new.faults (result ≡ Err DeltaError.Write) }
         // The next block is empty.
-        ensures next { let new = state T.written W.written W.faults self.new in IfOk result (λ range. OnSome range (IsOpen new [])) }
+        ensures next { IfOk result (λ range. OnSome range (IsOpen self.new [])) }
         // Behind a run that ends with the bytes, the block is one more block of the run.
-        ensures run { let old = state T.written W.written W.faults self.old in IfOk result (λ range. OnSome range (AddsToRun T.codec old)) }
+        ensures run { IfOk result (λ range. OnSome range (AddsToRun T.codec self.old)) }
     {
         if self.block.is_empty() {
             return Ok(None);
         }
-        self.serialize_values()?;
+        serialize_values(&self.value_writer, &mut self.stateless_buffer)?;
         let start = self.write.written_bytes();
         let values = self.stateless_buffer.as_slice();
         let deltas = self.block.as_slice();
@@ -210,12 +235,11 @@ impl<W: Sink, T: ValueWriter + Drop> DeltaWriter<W, T> {
 
     /// Writes out the open block where its deltas have more bytes than the block length.
     pub fn flush_block_if_required(&mut self) -> Result<Option<Range<u64>>, DeltaError>
-        ensures due { let old = state T.written W.written W.faults self.old in let new = state T.written W.written W.faults self.new in old.block_len < length old.deltas → Flushes T.codec old new result }
-        ensures not_due { let old = state T.written W.written W.faults self.old in let new = state T.written W.written W.faults self.new in length old.deltas ≤ old.block_len → (result ≡ Ok None) × (new ≡ old) }
-        ensures cause { let old = state T.written W.written W.faults self.old in let new = state T.written W.written W.faults self.new in HasCause old.faults new.faults (result ≡ Err DeltaError.Write) }
-        // The next block is empty.
-        ensures next { let new = state T.written W.written W.faults self.new in IfOk result (λ range. OnSome range (IsOpen new [])) }
-        ensures run { let old = state T.written W.written W.faults self.old in IfOk result (λ range. OnSome range (AddsToRun T.codec old)) }
+        ensures due { self.old.block_len < length self.old.deltas → Flushes T.codec self.old self.new result }
+        ensures not_due { length self.old.deltas ≤ self.old.block_len → (result ≡ Ok None) × (self.new ≡ self.old) }
+        ensures cause { HasCause self.old.faults self.new.faults (result ≡ Err DeltaError.Write) }
+        ensures next { IfOk result (λ range. OnSome range (IsOpen self.new [])) }
+        ensures run { IfOk result (λ range. OnSome range (AddsToRun T.codec self.old)) }
     {
         if self.block.len() > self.block_len {
             return self.flush_block();
@@ -225,8 +249,10 @@ impl<W: Sink, T: ValueWriter + Drop> DeltaWriter<W, T> {
 
     /// The sink, with the count of what was written to it.
     pub fn finish(self) -> CountingWriter<W>
-        ensures sink { inner_sink result ≡ sink_of self }
-        ensures counted { bytes_counted result ≡ (state T.written W.written W.faults self).counted }
+        ensures sink { inner_sink result ≡ self.sink }
+        ensures written { W.written (inner_sink result) ≡ self.written }
+        ensures faults { W.faults (inner_sink result) ≡ self.faults }
+        ensures counted { bytes_counted result ≡ self.counted }
     {
         let DeltaWriter {
             write,

@@ -7,17 +7,19 @@
 
 mod block_addr;
 mod block_reader;
+mod comparator;
 mod delta_reader;
 mod delta_writer;
+mod entry_reader;
 mod errors;
-mod range;
-mod value;
-pub mod vint;
 
 pub use block_addr::BlockAddr;
-pub use block_reader::BlockReader;
+pub use block_reader::{BlockReader, BlockSlice};
+pub use comparator::DeltaKeyComparator;
 pub use delta_reader::DeltaReader;
 pub use delta_writer::DeltaWriter;
-pub use errors::{BlockError, DeltaError, ValueError};
-pub use range::{RangeValueReader, RangeValueWriter};
-pub use value::{StoredValue, ValueReader, ValueWriter};
+pub use errors::DeltaError;
+pub use sstable_values::{
+    BlockError, RangeValueReader, RangeValueWriter, StoredValue, ValueError, ValueReader,
+    ValueWriter, vint,
+};

@@ -1,11 +1,11 @@
 // Index files byte by byte, and what is refused.
 ghost use Rattle.std.specs.Prelude.{◌≤◌};
 
+use documents::{Doc, Pair, Pairs};
 use index_writing::{WriteError, write_index};
 use owned_bytes::{MemSink, Text, VecSink};
 use std::alloc::{AllocError, Global};
 use std::test::Fail;
-use term_documents::{Doc, Pair, Pairs};
 
 // Three documents of the field `f`: `a`; `a` and `b`; `b`.
 const THREE: [u8; 60] = [

@@ -140,30 +140,4 @@ pub none_beside : (count : ℕ) (buffer : List ℕ) → (0 < count → buffer �
 none_beside zero buffer apart some = refl
 none_beside (suc count) buffer apart some = absurd (omega (arith, ap length (apart (omega arith))))
 
-pub numbers-push : (blocks : List PackedBlock) (tail : PackedBlock) (buffer : List ℕ) (number : ℕ) → all_numbers blocks tail (buffer ++ number ∷ []) ≡ all_numbers blocks tail buffer ++ number ∷ []
-numbers-push blocks tail buffer number =
-    ap (λ l. flat_map block_numbers blocks ++ l) (sym (append_assoc (block_numbers tail) buffer (number ∷ []))) ∙ sym (append_assoc (flat_map block_numbers blocks) (block_numbers tail ++ buffer) (number ∷ []))
-
 -- ---- copies
-
-pub block_numbers-copied : (b c : PackedBlock) → c.base_value ≡ b.base_value → c.num_bits ≡ b.num_bits → c.count ≡ b.count → c.bytes.items ≡ b.bytes.items → block_numbers c ≡ block_numbers b
-block_numbers-copied b c base width count bytes =
-    ap (λ v. map (λ value. v + value) (unpacked_from 0 c.count c.num_bits c.bytes.items)) base
-    ∙ ap (λ w. map (λ value. b.base_value + value) (unpacked_from 0 c.count w c.bytes.items)) width
-    ∙ ap (λ n. map (λ value. b.base_value + value) (unpacked_from 0 n b.num_bits c.bytes.items)) count
-    ∙ ap (λ l. map (λ value. b.base_value + value) (unpacked_from 0 b.count b.num_bits l)) bytes
-
-pub IsBlock-copied : (b c : PackedBlock) → c.base_value ≡ b.base_value → c.num_bits ≡ b.num_bits → c.count ≡ b.count → c.bytes.items ≡ b.bytes.items → IsBlock b → IsBlock c
-IsBlock-copied b c base width count bytes is = record {
-  allowed = λ wide. width ∙ is.allowed (subst (λ w. 56 < w) width wide);
-  few = subst (λ n. n ≤ 128) (sym count) is.few;
-  within = rw count (rw width (subst (λ l. b.count * b.num_bits ≤ 8 * length l) (sym bytes) is.within));
-  fit = subst (All (λ n. n < 2 ^ 64)) (sym (block_numbers-copied b c base width count bytes)) is.fit;
-}
-
--- one more whole block copied
-pub copies-more : (blocks copies : List PackedBlock) (copy : PackedBlock) (i : ℕ) (d : PackedBlock) → i < length blocks → block_numbers copy ≡ block_numbers (get_or blocks i d)
-    → flat_map block_numbers copies ≡ flat_map block_numbers (take i blocks) → flat_map block_numbers (copies ++ copy ∷ []) ≡ flat_map block_numbers (take (i + 1) blocks)
-copies-more blocks copies copy i d below same before =
-    sym (flat_map_more block_numbers [] copies copy) ∙ ap (λ l. l ++ block_numbers copy) before ∙ ap (λ l. flat_map block_numbers (take i blocks) ++ l) same
-    ∙ flat_map_more block_numbers [] (take i blocks) (get_or blocks i d) ∙ sym (ap (flat_map block_numbers) (take_more blocks i d below))

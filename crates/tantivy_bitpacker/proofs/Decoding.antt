@@ -1,6 +1,6 @@
 -- A range of packed numbers, decoded piece by piece into a list.
 use Rattle.std.proofs.Common.{◌≡◌, ℕ, ◌+◌, ◌-◌, ◌*◌, ◌/◌, ◌%◌, ◌<◌, ◌≤◌, List, [], ◌∷◌, ◌++◌, length, take, drop, set, ap, sym, ◌∙◌, arith, append_assoc, append-nil}
-use Rattle.std.proofs.lemmas.List.{take_more_set, take_rest, take_all}
+use Rattle.std.proofs.lemmas.List.{take_more_set, take_rest, take_all, drop_all}
 use Rattle.std.proofs.lemmas.Nat.{mul-le}
 use Rattle.tantivy_bitpacker.specs.Packed.{bits_from, unpacked_from}
 use Rattle.tantivy_bitpacker.proofs.Unpacking.{unpacked_from-push, unpacked_from-add, unpacked_from-drop}
@@ -70,3 +70,8 @@ Decoded-next start from i width value old out bytes le room so_far is =
     take_more_set out i value room ∙ ap (λ l. l ++ value ∷ []) so_far ∙ append_assoc (take from old) (unpacked_from (start + from) (i - from) width bytes) (value ∷ [])
     ∙ ap (λ v. take from old ++ (unpacked_from (start + from) (i - from) width bytes ++ v ∷ [])) (is ∙ ap (λ n. bits_from (n * width) width bytes) place)
     ∙ ap (λ l. take from old ++ l) (sym (unpacked_from-push (start + from) (i - from) width bytes)) ∙ ap (λ n. take from old ++ unpacked_from (start + from) n width bytes) count
+
+-- what a whole slice that was lent leaves in its vector
+pub lent_whole : (items new : List ℕ) (n : ℕ) → length new ≡ length items → n ≡ length items → take n (new ++ drop (length new) items) ≡ new
+lent_whole items new n same whole =
+    ap (λ rest. take n (new ++ rest)) (drop_all (length new) items (omega (arith, same))) ∙ ap (take n) (append-nil new) ∙ take_all n new (omega (arith, same, whole))

@@ -146,12 +146,3 @@ Filtering-eight low high offset at kept mid end mask xs ys zs ws f room is first
       behind = omega (arith, f.behind, second.count, set_places-length (offset + at + 4) high_half);
       long = long ∙ f.long;
     }
-
--- a filter that goes on from a place
-pub Filtering-finish : (low high offset kept from : ℕ) (xs ys zs : List ℕ) (end : ℕ) → Filtering low high offset xs ys kept from → from ≤ length xs → take end zs ≡ take kept ys ++ places_within low high (offset + from) (drop from ys)
-    → take end zs ≡ places_within low high offset xs
-Filtering-finish low high offset kept from xs ys zs end f inside is =
-    let front : length (take from xs) ≡ from = length-take-le from xs inside in
-    is ∙ ap (λ l. l ++ places_within low high (offset + from) (drop from ys)) f.front ∙ ap (λ l. places_within low high offset (take from xs) ++ places_within low high (offset + from) l) f.rest
-    ∙ ap (λ n. places_within low high offset (take from xs) ++ places_within low high (offset + n) (drop from xs)) (sym front)
-    ∙ sym (places_within-append low high offset (take from xs) (drop from xs)) ∙ ap (places_within low high offset) (take-append-drop from xs)

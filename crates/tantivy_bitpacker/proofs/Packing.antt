@@ -2,11 +2,11 @@
 use Rattle.std.proofs.Common.{◌≡◌, ℕ, suc, ◌+◌, ◌*◌, ◌/◌, ◌%◌, ◌^◌, ◌<◌, ◌≤◌, List, [], ◌∷◌, ◌++◌, length, take, drop, get_or, ap, sym, ◌∙◌, arith, take-append-drop, drop-cons, length-take-le, ext_get_or}
 use Rattle.std.proofs.lemmas.Nat.{pow-add, mul-add-lt}
 use Rattle.std.proofs.lemmas.List.{map-append}
-use Rattle.std.proofs.lemmas.List.Elements.{All-head, All-tail, All-append, All-map, All-take, All-get_or}
+use Rattle.std.proofs.lemmas.List.Elements.{All-head, All-tail, All-map, All-take, All-get_or}
 use Rattle.std.proofs.Math.Nat.{mul-add, mul_assoc, div-eq_of_lt, mod-eq_of_lt}
-use Rattle.tantivy_bitpacker.specs.Packed.{bits_from, bytes_of, bytes_for, with_value, total_width, joined, bits_of, packed_pieces, at_width, packed, unpacked_from, FitWidths, FitWidth}
+use Rattle.tantivy_bitpacker.specs.Packed.{bits_from, bytes_for, with_value, total_width, joined, bits_of, packed_pieces, at_width, packed, unpacked_from, FitWidths, FitWidth}
 use Rattle.tantivy_bitpacker.proofs.Powers.{field_within, div-add_high, mod-add_high}
-use Rattle.tantivy_bitpacker.proofs.Bytes.{as_number-bytes_of, length-bytes_of, bytes_of-append, bytes_of-add_high}
+use Rattle.tantivy_bitpacker.proofs.Bytes.{as_number-bytes_of, length-bytes_of}
 use Rattle.tantivy_bitpacker.proofs.Unpacking.{bits_from-append, length-unpacked_from, get_or-unpacked_from}
 
 pub total_width-append : (xs ys : List (ℕ × ℕ)) → total_width (xs ++ ys) ≡ total_width xs + total_width ys
@@ -39,9 +39,6 @@ joined-lt ((value, width) ∷ pieces) fit =
     let here : value < 2 ^ width = All-head (λ (piece : ℕ × ℕ). piece.0 < 2 ^ piece.1) (value, width) pieces fit in
     let rest : joined pieces < 2 ^ total_width pieces = joined-lt pieces (All-tail (λ (piece : ℕ × ℕ). piece.0 < 2 ^ piece.1) (value, width) pieces fit) in
     omega (arith, mul-add-lt (joined pieces) (2 ^ width) value (2 ^ total_width pieces) rest here, pow-add 2 width (total_width pieces))
-
-pub FitWidths-append : (xs ys : List (ℕ × ℕ)) → FitWidths xs → FitWidths ys → FitWidths (xs ++ ys)
-FitWidths-append = All-append (λ (piece : ℕ × ℕ). piece.0 < 2 ^ piece.1)
 
 -- the number of the bits from a value's place on
 joined-from : (front back : List (ℕ × ℕ)) (value width : ℕ) → FitWidths front → joined (front ++ (value, width) ∷ back) / 2 ^ total_width front ≡ value + 2 ^ width * joined back
@@ -102,22 +99,3 @@ unpacked-packed width values rest fit =
     get_or-unpacked_from 0 (length values) width bytes i 0 within ∙ ap (λ n. bits_from (n * width) width bytes) (omega arith) ∙ bits_from-packed_at width values rest i fit within)
 
 -- ---- a cut at a whole byte
-
--- what is packed behind a whole number of bytes is packed on its own
-pub packed_pieces-append : (n : ℕ) (xs ys : List (ℕ × ℕ)) → total_width xs ≡ 8 * n → FitWidths xs → packed_pieces (xs ++ ys) ≡ packed_pieces xs ++ packed_pieces ys
-packed_pieces-append n xs ys whole fit =
-    let k : ℕ = bytes_for (total_width ys) in
-    let front : bytes_for (total_width xs) ≡ n = omega arith in
-    let count : bytes_for (total_width (xs ++ ys)) ≡ n + k = omega (arith, total_width-append xs ys) in
-    let number : joined (xs ++ ys) ≡ joined xs + 2 ^ (8 * n) * joined ys = joined-append xs ys ∙ ap (λ m. joined xs + 2 ^ m * joined ys) whole in
-    let small : joined xs < 2 ^ (8 * n) = rw whole at (joined-lt xs fit) in
-    let low : bytes_of n (joined xs + 2 ^ (8 * n) * joined ys) ≡ bytes_of (bytes_for (total_width xs)) (joined xs) = bytes_of-add_high n (joined xs) (joined ys) ∙ ap (λ m. bytes_of m (joined xs)) (sym front) in
-    let high : (joined xs + 2 ^ (8 * n) * joined ys) / 2 ^ (8 * n) ≡ joined ys = div-add_high (joined xs) (8 * n) (joined ys) ∙ ap (λ m. m + joined ys) (div-eq_of_lt small) ∙ omega arith in
-    ap (λ m. bytes_of m (joined (xs ++ ys))) count ∙ ap (bytes_of (n + k)) number ∙ bytes_of-append n k (joined xs + 2 ^ (8 * n) * joined ys)
-    ∙ ap (λ bs. bs ++ bytes_of k ((joined xs + 2 ^ (8 * n) * joined ys) / 2 ^ (8 * n))) low ∙ ap (λ m. packed_pieces xs ++ bytes_of k m) high
-
--- what is packed behind a multiple of eight values is packed on its own
-pub packed-append : (eights width : ℕ) (xs ys : List ℕ) → length xs ≡ 8 * eights → FitWidth width xs → packed width (xs ++ ys) ≡ packed width xs ++ packed width ys
-packed-append eights width xs ys long fit =
-    let whole : total_width (at_width width xs) ≡ 8 * (eights * width) = total_width-at_width width xs ∙ ap (λ n. n * width) long ∙ omega arith in
-    ap packed_pieces (map-append (λ v. (v, width)) xs ys) ∙ packed_pieces-append (eights * width) (at_width width xs) (at_width width ys) whole (FitWidths-at_width width xs fit)

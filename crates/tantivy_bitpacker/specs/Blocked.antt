@@ -24,6 +24,10 @@ pub record IsFullBlock (block : PackedBlock) : Type 0 where
 abbrev pub all_numbers : List PackedBlock → PackedBlock → List ℕ → List ℕ
 all_numbers blocks tail buffer = flat_map block_numbers blocks ++ (block_numbers tail ++ buffer)
 
+-- Parts of a list that have the same numbers.
+abbrev pub KeepsNumbers : List PackedBlock → PackedBlock → List ℕ → List PackedBlock → PackedBlock → List ℕ → Type 0
+KeepsNumbers blocks tail buffer now_blocks now_tail now_buffer = all_numbers now_blocks now_tail now_buffer ≡ all_numbers blocks tail buffer
+
 -- The parts of a list: whole blocks, a shorter block or none, and where there is none the numbers that are not packed yet.
 pub record AreBlocks (blocks : List PackedBlock) (tail : PackedBlock) (buffer : List ℕ) (len : ℕ) : Type 0 where
   pub blocks_full : All IsFullBlock blocks

@@ -1,5 +1,5 @@
 -- Packed numbers: each at its width, least bit first, without gaps.
-use Rattle.std.specs.Prelude.{◌≡◌, ℕ, zero, suc, ◌+◌, ◌*◌, ◌/◌, ◌%◌, ◌^◌, ◌<◌, List, [], ◌∷◌, map, Option, All, nat_le, if◌then◌else◌}
+use Rattle.std.specs.Prelude.{◌≡◌, ℕ, zero, suc, ◌+◌, ◌-◌, ◌*◌, ◌/◌, ◌%◌, ◌^◌, ◌<◌, List, [], ◌∷◌, ◌++◌, take, map, Option, All, nat_le, if◌then◌else◌}
 use Rattle.std.specs.Io.KnownBytes.{Appends}
 
 -- The bytes as one number, the lowest byte first.
@@ -15,6 +15,14 @@ bits_from place width bytes = as_number bytes / 2 ^ place % 2 ^ width
 unfoldable pub unpacked_from : ℕ → ℕ → ℕ → List ℕ → List ℕ
 unpacked_from first zero width bytes = []
 unpacked_from first (suc count) width bytes = bits_from (first * width) width bytes ∷ unpacked_from (first + 1) count width bytes
+
+-- Those at the places from `from` to `to`, counted from `start`.
+abbrev pub read_between : ℕ → ℕ → ℕ → ℕ → List ℕ → List ℕ
+read_between start from to width bytes = unpacked_from (start + from) (to - from) width bytes
+
+-- Up to `to` the items now show the numbers that they showed up to `from`, and then these.
+abbrev pub Puts : {T : Type 0} → (T → ℕ) → List T → List T → ℕ → ℕ → List ℕ → Type 0
+Puts number old new from to numbers = take to (map number new) ≡ take from (map number old) ++ numbers
 
 -- The first numbers of one width.
 abbrev pub unpacked : ℕ → ℕ → List ℕ → List ℕ
@@ -45,6 +53,10 @@ with_value bits value width = record { number = bits.number + 2 ^ bits.count * v
 -- The words of eight bytes that the run fills.
 abbrev pub full_words : Bits → List ℕ
 full_words bits = bytes_of (8 * (bits.count / 64)) bits.number
+
+-- The words that the run fills with a value's bits behind it.
+abbrev pub words_with : Bits → ℕ → ℕ → List ℕ
+words_with bits value width = full_words (with_value bits value width)
 
 -- The bits of the run after its full words.
 abbrev pub open_word : Bits → Bits
@@ -85,6 +97,16 @@ packed width values = packed_pieces (at_width width values)
 pub record HasPacked (pieces : List (ℕ × ℕ)) (held : Bits) (before now : Option (List ℕ)) : Type 0 where
   pub appended : Appends before now (full_words (bits_of pieces))
   pub rest : held ≡ open_word (bits_of pieces)
+
+-- Whatever was packed before, the packer has packed this value behind it.
+abbrev pub PacksNext : ℕ → ℕ → Bits → Bits → Option (List ℕ) → Option (List ℕ) → Type 0
+PacksNext value width held now_held told now_told = (pieces : List (ℕ × ℕ)) (before : Option (List ℕ))
+    → HasPacked pieces held before told → HasPacked (pieces ++ (value, width) ∷ []) now_held before now_told
+
+-- Whatever was packed before, the sink has the bytes of all of it.
+abbrev pub PacksLast : Bits → Option (List ℕ) → Option (List ℕ) → Type 0
+PacksLast held told now_told = (pieces : List (ℕ × ℕ)) (before : Option (List ℕ))
+    → HasPacked pieces held before told → Appends before now_told (packed_pieces pieces)
 
 -- The number of binary digits, of which there are at most `most`.
 unfoldable pub digits_upto : ℕ → ℕ → ℕ

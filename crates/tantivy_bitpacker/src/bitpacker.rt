@@ -1,8 +1,7 @@
-// A writer that packs numbers, and a reader of them.
-ghost use Rattle.std.specs.Prelude.{◌≡◌, ℕ, ◌+◌, ◌*◌, ◌/◌, ◌%◌, ◌^◌, ◌<◌, ◌≤◌, List, [], ◌∷◌, ◌++◌, Option, OnOk, OnErr, Err, length, drop};
-ghost use Rattle.std.specs.Io.KnownBytes.{Appends};
+// A writer that packs numbers.
+ghost use Rattle.std.specs.Prelude.{◌≡◌, ℕ, ◌+◌, ◌*◌, ◌/◌, ◌%◌, ◌^◌, ◌<◌, ◌≤◌, List, [], Option, OnOk, OnErr, Err, length, drop};
 ghost use Rattle.owned_bytes.specs.Outside.{HasCause, WritesAll};
-ghost use Rattle.tantivy_bitpacker.specs.Packed.{no_bits, with_value, full_words, open_word, whole_bytes, packed_pieces, bytes_of, HasPacked};
+ghost use Rattle.tantivy_bitpacker.specs.Packed.{no_bits, with_value, words_with, open_word, whole_bytes, bytes_of, HasPacked, PacksNext, PacksLast};
 
 use owned_bytes::{Sink, SinkError};
 use std::marker::Model;
@@ -61,6 +60,7 @@ fn write_word<W: Sink>(word: u64, num_bytes: usize, output: &mut W) -> Result<()
 }
 
 impl BitPacker {
+    /// A packer that holds no bits back.
     pub fn new() -> BitPacker
         ensures empty { result ≡ no_bits }
         ensures run { (sink : Option (List ℕ)) → HasPacked [] result sink sink }
@@ -81,14 +81,13 @@ impl BitPacker {
     ) -> Result<(), SinkError>
         requires width { num_bits ≤ 64 }
         requires fits { val < 2 ^ num_bits }
-        ensures bytes { WritesAll (W.written output.old) (W.written output.new) result (full_words (with_value self.old val num_bits)) }
+        ensures bytes { WritesAll (W.written output.old) (W.written output.new) result (words_with self.old val num_bits) }
         ensures ok { OnOk result (self.new ≡ open_word (with_value self.old val num_bits)) }
         ensures err { OnErr result (self.new ≡ self.old) }
         ensures cause { HasCause (W.faults output.old) (W.faults output.new) (result ≡ Err SinkError.Failed) }
 
         // Over a run of writes, the values' bits in order, least bit first, without gaps.
-        ensures run { OnOk result ((pieces : List (ℕ × ℕ)) (before : Option (List ℕ)) → HasPacked pieces self.old before (W.written output.old)
-            → HasPacked (pieces ++ (val, num_bits) ∷ []) self.new before (W.written output.new)) }
+        ensures run { OnOk result (PacksNext val num_bits self.old self.new (W.written output.old) (W.written output.new)) }
     {
         let written = self.mini_buffer_written;
         let total = written + num_bits;
@@ -110,8 +109,7 @@ impl BitPacker {
         ensures ok { OnOk result (self.new ≡ no_bits) }
         ensures err { OnErr result (self.new ≡ self.old) }
         ensures cause { HasCause (W.faults output.old) (W.faults output.new) (result ≡ Err SinkError.Failed) }
-        ensures run { OnOk result ((pieces : List (ℕ × ℕ)) (before : Option (List ℕ)) → HasPacked pieces self.old before (W.written output.old)
-            → Appends before (W.written output.new) (packed_pieces pieces)) }
+        ensures run { OnOk result (PacksLast self.old (W.written output.old) (W.written output.new)) }
     {
         let written = self.mini_buffer_written;
         if written == 0 {
@@ -130,8 +128,7 @@ impl BitPacker {
         ensures ok { OnOk result (self.new ≡ no_bits) }
         ensures err { OnErr result (self.new ≡ self.old) }
         ensures cause { HasCause (W.faults output.old) (W.faults output.new) (result ≡ Err SinkError.Failed) }
-        ensures run { OnOk result ((pieces : List (ℕ × ℕ)) (before : Option (List ℕ)) → HasPacked pieces self.old before (W.written output.old)
-            → Appends before (W.written output.new) (packed_pieces pieces)) }
+        ensures run { OnOk result (PacksLast self.old (W.written output.old) (W.written output.new)) }
     {
         self.flush(output)
     }

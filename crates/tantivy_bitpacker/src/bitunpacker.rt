@@ -1,13 +1,12 @@
 // A reader of numbers packed at one width.
-ghost use Rattle.std.specs.Prelude.{◌≡◌, ◌+◌, ◌*◌, ◌%◌, ◌^◌, ◌<◌, ◌≤◌, ◌++◌, ◌-◌, length, take, drop, map, replicate, OnOk};
-ghost use Rattle.std.specs.Range.{range_inclusive_start, range_inclusive_end};
-ghost use Rattle.tantivy_bitpacker.specs.Within.{ids_within, places_within};
-ghost use Rattle.tantivy_bitpacker.specs.Packed.{as_number, bits_from, unpacked_from};
+ghost use Rattle.std.specs.Prelude.{◌≡◌, ◌+◌, ◌*◌, ◌%◌, ◌^◌, ◌<◌, ◌≤◌, ◌++◌, ◌-◌, length, take, drop, map, replicate, IfOk, OnOk};
+ghost use Rattle.tantivy_bitpacker.specs.Within.{ids_in, ids_above, ids_of};
+ghost use Rattle.tantivy_bitpacker.specs.Packed.{as_number, bits_from, unpacked_from, read_between, Puts};
 
 use crate::filter_vec::filter_lanes;
 use crate::groups::{Unpacked, unpack_groups_of};
 use crate::plain;
-use std::alloc::AllocError;
+use std::alloc::{AllocError, Global};
 use std::marker::Model;
 use std::ops::{Range, RangeInclusive};
 
@@ -42,6 +41,7 @@ impl Model for BitUnpacker {
 }
 
 impl BitUnpacker {
+    /// A reader of numbers of so many bits.
     pub fn new(num_bits: u8) -> BitUnpacker
         requires { 56 < num_bits → num_bits ≡ 64 }
         ensures { result ≡ num_bits }
@@ -54,6 +54,7 @@ impl BitUnpacker {
         BitUnpacker { num_bits, mask }
     }
 
+    /// How many bits each number has.
     pub fn bit_width(&self) -> u8
         ensures { result ≡ self.now }
     {
@@ -66,7 +67,17 @@ impl BitUnpacker {
         requires { (idx + 1) * self.now ≤ 8 * length bytes.now }
         ensures { result ≡ bits_from (idx * self.now) self.now bytes.now }
     {
-        let place = idx as usize * self.num_bits as usize;
+        self.number_at(idx as usize, bytes)
+    }
+
+    // The number at a place, which may be past those that a `u32` counts.
+    #[inline]
+    fn number_at(&self, idx: usize, bytes: &[u8]) -> u64
+        requires few { idx < 2 ^ 33 }
+        requires within { (idx + 1) * self.now ≤ 8 * length bytes.now }
+        ensures { result ≡ bits_from (idx * self.now) self.now bytes.now }
+    {
+        let place = idx * self.num_bits as usize;
         (word_at(place / 8, bytes) >> (place % 8)) & self.mask
     }
 
@@ -82,11 +93,28 @@ impl BitUnpacker {
         self.unpack(start_idx, bytes, output);
     }
 
+    /// So many numbers of at most 32 bits, from the place `start_idx` on.
+    pub fn numbers_u32(
+        &self,
+        alloc: Global,
+        start_idx: u32,
+        count: u32,
+        bytes: &[u8],
+    ) -> Result<Vec<u32>, AllocError>
+        requires narrow { self.now ≤ 32 }
+        requires within { (start_idx + count) * self.now ≤ 8 * length bytes.now }
+        ensures { IfOk result (λ numbers. numbers.items ≡ unpacked_from start_idx count self.now bytes.now) }
+    {
+        let mut numbers = vec![in alloc; 0u32; count as usize]?;
+        self.unpack(start_idx, bytes, numbers.as_mut_slice());
+        Ok(numbers)
+    }
+
     // The numbers from the place `start_idx` on, as many as `output` holds.
     fn unpack<T: Unpacked>(&self, start_idx: u32, bytes: &[u8], output: &mut [T])
         requires grouped { self.now ≤ WIDEST_OF_GROUP }
         requires fit { self.now ≤ T.most_bits }
-        requires places { start_idx + length output.old ≤ 2 ^ 32 }
+        requires places { start_idx + length output.old ≤ 2 ^ 33 }
         requires within { (start_idx + length output.old) * self.now ≤ 8 * length bytes.now }
         ensures { map T.number output.new ≡ unpacked_from start_idx (length output.old) self.now bytes.now }
     {
@@ -111,12 +139,12 @@ impl BitUnpacker {
         requires fit { self.now ≤ T.most_bits }
         requires ordered { from ≤ to }
         requires inside { to ≤ length output.old }
-        requires places { start + length output.old ≤ 2 ^ 32 }
+        requires places { start + length output.old ≤ 2 ^ 33 }
         requires within { (start + length output.old) * self.now ≤ 8 * length bytes.now }
-        ensures { take to (map T.number output.new) ≡ take from (map T.number output.old) ++ unpacked_from (start + from) (to - from) self.now bytes.now }
+        ensures { Puts T.number output.old output.new from to (read_between start from to self.now bytes.now) }
     {
         for i in from..to {
-            output[i] = T::of(self.get((start + i) as u32, bytes));
+            output[i] = T::of(self.number_at(start + i, bytes));
         }
     }
 
@@ -132,11 +160,11 @@ impl BitUnpacker {
         requires grouped { self.now ≤ WIDEST_OF_GROUP }
         requires fit { self.now ≤ T.most_bits }
         requires inside { from ≤ length output.old }
-        requires places { start + length output.old ≤ 2 ^ 32 }
+        requires places { start + length output.old ≤ 2 ^ 33 }
         requires within { (start + length output.old) * self.now ≤ 8 * length bytes.now }
         ensures after { from ≤ result }
         ensures bound { result ≤ length output.old }
-        ensures decoded { take result (map T.number output.new) ≡ take from (map T.number output.old) ++ unpacked_from (start + from) (result - from) self.now bytes.now }
+        ensures decoded { Puts T.number output.old output.new from result (read_between start from result self.now bytes.now) }
     {
         let first = start + from;
         if first % 8 != 0 {
@@ -162,8 +190,7 @@ impl BitUnpacker {
         positions: &mut Vec<u32>,
     ) -> Result<(), AllocError>
         requires { id_range.end * self.now ≤ 8 * length bytes.now }
-        ensures { OnOk result (positions.new.items
-            ≡ ids_within (range_inclusive_start range) (range_inclusive_end range) id_range.start id_range.end self.now bytes.now) }
+        ensures { OnOk result (positions.new.items ≡ ids_in range id_range self.now bytes.now) }
     {
         if self.num_bits > 32 {
             return plain::get_ids_for_value_range(self, range, id_range, bytes, positions);
@@ -189,7 +216,7 @@ impl BitUnpacker {
         requires narrow { self.now ≤ 32 }
         requires fits { low + span < 2 ^ 32 }
         requires within { id_range.end * self.now ≤ 8 * length bytes.now }
-        ensures { OnOk result (positions.new.items ≡ positions.old.items ++ ids_within low (low + span) id_range.start id_range.end self.now bytes.now) }
+        ensures { OnOk result (positions.new.items ≡ positions.old.items ++ ids_of low span id_range self.now bytes.now) }
     {
         let mut block = [0; BLOCK];
         let mut first = id_range.start;
@@ -218,7 +245,7 @@ impl BitUnpacker {
         requires places { first + length block.old ≤ 2 ^ 32 }
         requires within { (first + length block.old) * self.now ≤ 8 * length bytes.now }
         ensures bound { result ≤ length block.old }
-        ensures kept { take result block.new ≡ places_within low (low + span) first (unpacked_from first (length block.old) self.now bytes.now) }
+        ensures kept { take result block.new ≡ ids_above low span first (length block.old) self.now bytes.now }
     {
         self.unpack(first, bytes, block);
         filter_lanes(low, span, first, block)

@@ -2,7 +2,7 @@
 ghost use Rattle.std.specs.Prelude.{◌≡◌, ◌+◌, ◌-◌, ◌^◌, ◌<◌, ◌≤◌, [], ◌∷◌, ◌++◌, length, map, slice_index, vec_len, IfOk, OnOk, OnErr, All};
 ghost use Rattle.std.specs.List.{flat_map};
 ghost use Rattle.tantivy_bitpacker.specs.Packed.{packed};
-ghost use Rattle.tantivy_bitpacker.specs.Blocked.{block_numbers, IsBlock, IsFullBlock, all_numbers};
+ghost use Rattle.tantivy_bitpacker.specs.Blocked.{block_numbers, IsBlock, IsFullBlock, KeepsNumbers};
 
 use crate::{BitPacker, BitUnpacker, compute_num_bits};
 use owned_bytes::VecSink;
@@ -174,7 +174,7 @@ fn store(
     requires few { vec_len buffer.old ≤ BLOCK_SIZE }
     ensures full { All IsFullBlock blocks.new.items }
     ensures block { IsBlock tail.new }
-    ensures numbers { all_numbers blocks.new.items tail.new buffer.new.items ≡ all_numbers blocks.old.items tail.old buffer.old.items }
+    ensures numbers { KeepsNumbers blocks.old.items tail.old buffer.old.items blocks.new.items tail.new buffer.new.items }
     ensures apart { 0 < tail.new.count → buffer.new.items ≡ [] }
     ensures few { vec_len buffer.new ≤ BLOCK_SIZE }
     ensures ok { OnOk result (vec_len buffer.new ≡ 0) }
@@ -219,6 +219,7 @@ impl Model for BlockedBitpacker {
 impl BlockedBitpacker {
     ghost use Rattle.tantivy_bitpacker.specs.BlockedRest.{blocked_rest};
 
+    /// The list without numbers.
     pub fn new(alloc: Global) -> Result<BlockedBitpacker, AllocError>
         ensures { IfOk result (λ packer. packer ≡ []) }
     {
@@ -238,12 +239,14 @@ impl BlockedBitpacker {
         self.len
     }
 
-    /// Adds a number at the end.
+    /// Adds a number at the end. Where there would be more than a `usize` counts, that is want of memory.
     pub fn add(&mut self, val: u64) -> Result<(), AllocError>
-        requires { length self.old + 1 < 2 ^ 64 }
         ensures ok { OnOk result (self.new ≡ self.old ++ val ∷ []) }
         ensures err { OnErr result (self.new ≡ self.old) }
     {
+        let Some(len) = self.len.checked_add(1) else {
+            return Err(AllocError);
+        };
         reopen(self.alloc, &mut self.tail, &mut self.buffer)?;
         if self.buffer.len() == BLOCK_SIZE {
             store(
@@ -254,7 +257,7 @@ impl BlockedBitpacker {
             )?;
         }
         self.buffer.push(val)?;
-        self.len += 1;
+        self.len = len;
         Ok(())
     }
 

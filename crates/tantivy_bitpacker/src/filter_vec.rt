@@ -1,9 +1,8 @@
 // Filters that put the places of the numbers within a range in place of the numbers.
-ghost use Rattle.std.specs.Prelude.{◌≡◌, ℕ, List, ◌+◌, ◌*◌, ◌/◌, ◌^◌, ◌≤◌, ◌<◌, length, take, map, vec_len};
-ghost use Rattle.std.specs.Range.{range_inclusive_start, range_inclusive_end};
+ghost use Rattle.std.specs.Prelude.{◌≡◌, ◌+◌, ◌*◌, ◌/◌, ◌^◌, ◌≤◌, ◌<◌, length, take, map, vec_len};
 ghost use Rattle.std.specs.Int.{is_in_range};
 ghost use Rattle.std.specs.Simd.Lanes.{mask_l, chunk};
-ghost use Rattle.tantivy_bitpacker.specs.Within.{places_within, Filtering};
+ghost use Rattle.tantivy_bitpacker.specs.Within.{places_in, places_within, Filtering, FiltersRest};
 ghost use Rattle.tantivy_bitpacker.specs.Lanes.{PutsPlaces};
 
 use std::ops::RangeInclusive;
@@ -37,7 +36,7 @@ static COUNTS: [u8; 16] = [0, 1, 1, 2, 1, 2, 2, 3, 1, 2, 2, 3, 2, 3, 3, 4];
 /// Puts the places of the numbers within the range, counted from `offset`, in place of the numbers.
 pub fn filter_vec_in_place(range: RangeInclusive<u32>, offset: u32, output: &mut Vec<u32>)
     requires { offset + vec_len output.old ≤ 2 ^ 32 }
-    ensures { output.new.items ≡ places_within (range_inclusive_start range) (range_inclusive_end range) offset output.old.items }
+    ensures { output.new.items ≡ places_in range offset output.old.items }
 {
     filter_vec_lanes(range, offset, output);
 }
@@ -45,7 +44,7 @@ pub fn filter_vec_in_place(range: RangeInclusive<u32>, offset: u32, output: &mut
 /// As `filter_vec_in_place`, one number at a time.
 pub fn filter_vec_scalar(range: RangeInclusive<u32>, offset: u32, output: &mut Vec<u32>)
     requires { offset + vec_len output.old ≤ 2 ^ 32 }
-    ensures { output.new.items ≡ places_within (range_inclusive_start range) (range_inclusive_end range) offset output.old.items }
+    ensures { output.new.items ≡ places_in range offset output.old.items }
 {
     let kept = filter_rest(
         *range.start(),
@@ -61,7 +60,7 @@ pub fn filter_vec_scalar(range: RangeInclusive<u32>, offset: u32, output: &mut V
 /// As `filter_vec_in_place`, eight numbers at a time.
 pub fn filter_vec_lanes(range: RangeInclusive<u32>, offset: u32, output: &mut Vec<u32>)
     requires { offset + vec_len output.old ≤ 2 ^ 32 }
-    ensures { output.new.items ≡ places_within (range_inclusive_start range) (range_inclusive_end range) offset output.old.items }
+    ensures { output.new.items ≡ places_in range offset output.old.items }
 {
     let low = *range.start();
     let high = *range.end();
@@ -115,7 +114,7 @@ fn filter_rest(
     requires inside { from ≤ length values.old }
     requires places { offset + length values.old ≤ 2 ^ 32 }
     ensures bound { result ≤ length values.old }
-    ensures kept { (xs : List ℕ) → Filtering low high offset xs values.old kept from → take result values.new ≡ places_within low high offset xs }
+    ensures kept { FiltersRest low high offset kept from values.old values.new result }
 {
     let mut kept = kept;
     for i in from..values.len() {

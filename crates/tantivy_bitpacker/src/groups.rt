@@ -1,7 +1,6 @@
-// Numbers unpacked in groups of eight, at a width that the compiler knows, so that each shift is by a constant.
-// A group of eight numbers begins with a whole byte, whatever their width.
+// Numbers unpacked in groups of eight, each of which begins with a whole byte, at widths that the compiler knows.
 ghost use Rattle.std.specs.Prelude.{◌≡◌, ℕ, ◌+◌, ◌*◌, ◌%◌, ◌^◌, ◌<◌, ◌≤◌, ◌++◌, length, take, drop, map};
-ghost use Rattle.tantivy_bitpacker.specs.Packed.{as_number, bits_from, unpacked_from};
+ghost use Rattle.tantivy_bitpacker.specs.Packed.{as_number, bits_from, unpacked_from, Puts};
 
 /// What numbers are unpacked to: an integer that holds those of a width up to `most_bits`.
 pub(crate) trait Unpacked: Copy {
@@ -75,7 +74,7 @@ fn unpack_group<T: Unpacked, const W: usize>(bytes: &[u8], at: usize, output: &m
     requires fit { W ≤ T.most_bits }
     requires room { W + 8 ≤ length bytes.now }
     requires places { at + 8 ≤ length output.old }
-    ensures { take (at + 8) (map T.number output.new) ≡ take at (map T.number output.old) ++ unpacked_from 0 8 W bytes.now }
+    ensures { Puts T.number output.old output.new at (at + 8) (unpacked_from 0 8 W bytes.now) }
 {
     for i in 0..8 {
         output[at + i] = T::of(number_of_group::<W>(bytes, i));
@@ -93,7 +92,7 @@ fn unpack_groups<T: Unpacked, const W: usize>(
     requires fit { W ≤ T.most_bits }
     requires room { groups * W + 8 ≤ length bytes.now }
     requires places { at + 8 * groups ≤ length output.old }
-    ensures { take (at + 8 * groups) (map T.number output.new) ≡ take at (map T.number output.old) ++ unpacked_from 0 (8 * groups) W bytes.now }
+    ensures { Puts T.number output.old output.new at (at + 8 * groups) (unpacked_from 0 (8 * groups) W bytes.now) }
 {
     for group in 0..groups {
         unpack_group::<T, W>(&bytes[group * W..], at + 8 * group, output);
@@ -112,7 +111,7 @@ pub(crate) fn unpack_groups_of<T: Unpacked>(
     requires fit { width ≤ T.most_bits }
     requires room { groups * width + 8 ≤ length bytes.now }
     requires places { at + 8 * groups ≤ length output.old }
-    ensures { take (at + 8 * groups) (map T.number output.new) ≡ take at (map T.number output.old) ++ unpacked_from 0 (8 * groups) width bytes.now }
+    ensures { Puts T.number output.old output.new at (at + 8 * groups) (unpacked_from 0 (8 * groups) width bytes.now) }
 {
     at_width!(
         width,

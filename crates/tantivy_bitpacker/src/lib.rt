@@ -12,5 +12,5 @@ pub mod plain;
 pub use bitpacker::BitPacker;
 pub use bits::{compute_num_bits, minmax};
 pub use bitunpacker::BitUnpacker;
-pub use blocked_bitpacker::BlockedBitpacker;
+pub use blocked_bitpacker::{BlockedBitpacker, BlockedIter};
 pub use filter_vec::{filter_vec_in_place, filter_vec_lanes, filter_vec_scalar};

@@ -1,9 +1,8 @@
-//! The calls that read many packed numbers, one number at a time. The fast calls answer the same.
+// The calls that read many packed numbers, one number at a time. The fast calls answer the same.
 ghost use Rattle.std.specs.Prelude.{◌≡◌, ◌+◌, ◌*◌, ◌^◌, ◌≤◌, length, OnOk};
-ghost use Rattle.std.specs.Range.{range_inclusive_start, range_inclusive_end};
 ghost use Rattle.std.specs.Int.{is_in_range};
 ghost use Rattle.tantivy_bitpacker.specs.Packed.{unpacked_from};
-ghost use Rattle.tantivy_bitpacker.specs.Within.{ids_within};
+ghost use Rattle.tantivy_bitpacker.specs.Within.{ids_in};
 
 use crate::BitUnpacker;
 use std::alloc::AllocError;
@@ -29,8 +28,7 @@ pub fn get_ids_for_value_range(
     positions: &mut Vec<u32>,
 ) -> Result<(), AllocError>
     requires { id_range.end * unpacker.now ≤ 8 * length bytes.now }
-    ensures { OnOk result (positions.new.items
-        ≡ ids_within (range_inclusive_start range) (range_inclusive_end range) id_range.start id_range.end unpacker.now bytes.now) }
+    ensures { OnOk result (positions.new.items ≡ ids_in range id_range unpacker.now bytes.now) }
 {
     let low = *range.start();
     let high = *range.end();
@@ -44,6 +42,7 @@ pub fn get_ids_for_value_range(
     Ok(())
 }
 
+// Whether the value is from `low` to `high`.
 fn is_within(low: u64, high: u64, value: u64) -> bool
     ensures { result ≡ is_in_range low high value }
 {

@@ -1,2 +1,3 @@
 pub mod Paths
+pub mod PathLaws
 pub mod BoundKinds

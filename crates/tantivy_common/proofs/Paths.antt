@@ -118,20 +118,6 @@ module _ (text indices text' indices' segment : List ℕ) (separated expand : Bo
   pub push_text : text' ≡ (text ++ separator (texts_before text (reverse indices))) ++ segment_bytes expand segment
   push_text = grown ∙ ap (λ s. (text ++ s) ++ segment_bytes expand segment) (separator_is text (reverse indices) separated (apart ∙ ap (λ n. not (n == 0)) length_same))
 
--- ---- a pop
-
-module _ (text indices indices' : List ℕ) (n : ℕ) (kept : is_stack text (reverse indices) ≡ true) (unstacked : indices ≡ indices' ++ n ∷ []) where
-  top_was : reverse indices ≡ n ∷ reverse indices'
-  top_was = ap reverse unstacked ∙ reverse-append indices' (n ∷ [])
-
-  pub pop_keeps : is_stack (take n text) (reverse indices') ≡ true
-  pop_keeps =
-      let parts = and_parts (is_utf8 text) (nat_le n (length text) && is_stack (take n text) (reverse indices')) (sym (ap (is_stack text) top_was) ∙ kept) in
-      (and_parts (nat_le n (length text)) (is_stack (take n text) (reverse indices')) parts.1).1
-
-  pub pop_before : texts_before text (reverse indices) ≡ take n text ∷ texts_before (take n text) (reverse indices')
-  pop_before = ap (texts_before text) top_was
-
 -- ---- what a test of a result tells
 
 pub ok_unless_err : {A E : Type 0} (r : Result A E) → false ≡ is_err r → is_ok r ≡ true

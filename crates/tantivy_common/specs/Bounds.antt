@@ -26,6 +26,10 @@ placed bound (Existing y) = with_value bound y
 abbrev pub IsMapped : {T U : Type 0} → (T → U → Type 0) → Bound T → Bound U → Type 0
 IsMapped {T} {U} Gives bound new = MatchOption (inner bound) (new ≡ Unbounded) (λ x. (y : U) × Gives x y × (new ≡ with_value bound y))
 
+-- the same, by a transformation that may fail and did not
+abbrev pub IsMappedOk : {T U E : Type 0} → (T → Result U E → Type 0) → Bound T → Bound U → Type 0
+IsMappedOk Gives bound new = IsMapped (λ x y. Gives x (Ok y)) bound new
+
 -- an unbounded bound stays, and another becomes what `Gives` allows
 abbrev pub IsTransformed : {T U : Type 0} → (T → TransformBound U → Type 0) → Bound T → Bound U → Type 0
 IsTransformed {T} {U} Gives bound new = MatchOption (inner bound) (new ≡ Unbounded) (λ x. (t : TransformBound U) × Gives x t × (new ≡ placed bound t))

@@ -1,7 +1,6 @@
 -- JSON paths: segments joined by the byte 1, and a stack of what the path was before each push.
 use Rattle.std.specs.Prelude.{◌≡◌, ℕ, ◌&&◌, Bool, List, [], ◌∷◌, ◌++◌, length, take, map, nat_le, ◌==◌, if◌then◌else◌, fold, refl}
 use Rattle.std.specs.List.{join_with_byte}
-use Rattle.std.proofs.Common.{sym, ap, ◌∙◌, append_assoc, append-nil}
 use Rattle.std.specs.Str.{is_utf8}
 use Rattle.std.specs.Coded.{Coded, code_by, coded×, coded_ℕ, coded_list, coded_bool}
 
@@ -23,6 +22,10 @@ expanded segment = map (λ b. if b == 46 then 1 else b) segment
 -- the bytes of a segment
 abbrev pub segment_bytes : Bool → List ℕ → List ℕ
 segment_bytes expand_dots segment = if expand_dots then expanded segment else segment
+
+-- a text, a separator where one is due, and the bytes of a segment
+abbrev pub with_segment : List ℕ → Bool → Bool → List ℕ → List ℕ
+with_segment text separated expand_dots segment = text ++ (if separated then 1 ∷ [] else []) ++ segment_bytes expand_dots segment
 
 -- a separator, but at the first segment
 abbrev pub separator : List (List ℕ) → List ℕ
@@ -64,37 +67,11 @@ abbrev pub is_stack : List ℕ → List ℕ → Bool
 is_stack text [] = is_utf8 text
 is_stack text (n ∷ ns) = is_utf8 text && (nat_le n (length text) && is_stack (take n text) ns)
 
--- ---- laws
-
--- a pop undoes a push
-pub popped-pushed : (p : JsonPath) (segment : List ℕ) → popped (pushed p segment) ≡ p
-popped-pushed p segment = refl
-
 -- segments pushed one after another
 abbrev pub all_pushed : JsonPath → List (List ℕ) → JsonPath
 all_pushed p segments = fold pushed p segments
 
--- the bytes of each segment, a separator before each
-separated : Bool → List (List ℕ) → List ℕ
-separated expand_dots [] = []
-separated expand_dots (s ∷ ss) = 1 ∷ (segment_bytes expand_dots s ++ separated expand_dots ss)
-
-joined_separated : (expand_dots : Bool) (s : List ℕ) (ss : List (List ℕ))
-    → join_with_byte 1 (map (segment_bytes expand_dots) (s ∷ ss)) ≡ segment_bytes expand_dots s ++ separated expand_dots ss
-unfolding separated
-joined_separated expand_dots s [] = sym (append-nil (segment_bytes expand_dots s))
-joined_separated expand_dots s (t ∷ ss) = ap (λ xs. segment_bytes expand_dots s ++ (1 ∷ xs)) (joined_separated expand_dots t ss)
-
-text_after : (text : List ℕ) (before : List (List ℕ)) (t : List ℕ) (expand_dots : Bool) (ss : List (List ℕ))
-    → (all_pushed (record { text = text; before = t ∷ before; expand_dots = expand_dots }) ss).text ≡ text ++ separated expand_dots ss
-unfolding separated
-text_after text before t expand_dots [] = sym (append-nil text)
-text_after text before t expand_dots (s ∷ ss) =
-    text_after (text ++ (1 ∷ []) ++ segment_bytes expand_dots s) (t ∷ before) text expand_dots ss
-    ∙ append_assoc (text ++ (1 ∷ [])) (segment_bytes expand_dots s) (separated expand_dots ss)
-    ∙ append_assoc text (1 ∷ []) (segment_bytes expand_dots s ++ separated expand_dots ss)
-
--- a path is its segments joined by the separator
-pub text-all_pushed : (expand_dots : Bool) (segments : List (List ℕ)) → (all_pushed (empty_path expand_dots) segments).text ≡ join_with_byte 1 (map (segment_bytes expand_dots) segments)
-text-all_pushed expand_dots [] = refl
-text-all_pushed expand_dots (s ∷ ss) = text_after (segment_bytes expand_dots s) [] [] expand_dots ss ∙ sym (joined_separated expand_dots s ss)
+-- a path that segments are pushed to is the segments joined by the separator
+abbrev pub PushedAreJoined : Type 0
+PushedAreJoined = (expand_dots : Bool) (segments : List (List ℕ))
+    → (all_pushed (empty_path expand_dots) segments).text ≡ join_with_byte 1 (map (segment_bytes expand_dots) segments)

@@ -2,7 +2,7 @@
 ghost use Rattle.std.specs.Prelude.{◌≡◌, ◌↔◌, IsTrue, Ok, Err, IfOk, IfErr, IsNone, option_copied};
 ghost use Rattle.std.specs.Option.{option_or};
 ghost use Rattle.std.specs.Fn.{FnReturnsAt};
-ghost use Rattle.tantivy_common.specs.Bounds.{inner, IsMapped, IsTransformed, Fails, FailsInTurn};
+ghost use Rattle.tantivy_common.specs.Bounds.{inner, IsMapped, IsMappedOk, IsTransformed, Fails, FailsInTurn};
 
 use std::ops::Bound;
 
@@ -45,6 +45,7 @@ pub fn map_bound_res<T, U, E, F: Fn(&T) -> Result<U, E>>(
     try_map_by(bound, &transform)
 }
 
+// As `map_bound`, by a transformation that is lent.
 fn map_by<T, U, F: Fn(&T) -> U>(bound: &Bound<T>, transform: &F) -> Bound<U>
     requires { F.IsAlwaysCallable transform.now }
     ensures { IsMapped (λ x y. FnReturnsAt F.Fn transform.now x y) bound.now result }
@@ -56,6 +57,7 @@ fn map_by<T, U, F: Fn(&T) -> U>(bound: &Bound<T>, transform: &F) -> Bound<U>
     }
 }
 
+// As `map_bound_res`, by a transformation that is lent.
 fn try_map_by<T, U, E, F: Fn(&T) -> Result<U, E>>(
     bound: &Bound<T>,
     transform: &F,
@@ -130,6 +132,7 @@ pub struct BoundsRange<T> {
 }
 
 impl<T> BoundsRange<T> {
+    /// The range of these bounds.
     pub fn new(lower_bound: Bound<T>, upper_bound: Bound<T>) -> Self
         ensures { result ≡ record { lower_bound = lower_bound; upper_bound = upper_bound } }
     {
@@ -139,6 +142,7 @@ impl<T> BoundsRange<T> {
         }
     }
 
+    /// Neither bound has a value.
     pub fn is_unbounded(&self) -> bool
         ensures { IsTrue result ↔ (IsNone (inner self.now.lower_bound) × IsNone (inner self.now.upper_bound)) }
     {
@@ -152,6 +156,7 @@ impl<T> BoundsRange<T> {
         inner_bound(&self.lower_bound).or(inner_bound(&self.upper_bound))
     }
 
+    /// Both bounds at the transformed values, of the same kinds.
     pub fn map_bound<U, F: Fn(&T) -> U>(&self, transform: F) -> BoundsRange<U>
         requires { F.IsAlwaysCallable transform }
         ensures lower { IsMapped (λ x y. FnReturnsAt F.Fn transform x y) self.now.lower_bound result.lower_bound }
@@ -169,9 +174,9 @@ impl<T> BoundsRange<T> {
         transform: F,
     ) -> Result<BoundsRange<U>, E>
         requires { F.IsAlwaysCallable transform }
-        ensures lower { IfOk result (λ range. IsMapped (λ x y. FnReturnsAt F.Fn transform x (Ok y)) self.now.lower_bound range.lower_bound) }
-        ensures upper { IfOk result (λ range. IsMapped (λ x y. FnReturnsAt F.Fn transform x (Ok y)) self.now.upper_bound range.upper_bound) }
-        ensures err { IfErr result (FailsInTurn (λ x r. FnReturnsAt F.Fn transform x r) self.now.lower_bound self.now.upper_bound) }
+        ensures lower { IfOk result (λ range. IsMappedOk (FnReturnsAt F.Fn transform) self.now.lower_bound range.lower_bound) }
+        ensures upper { IfOk result (λ range. IsMappedOk (FnReturnsAt F.Fn transform) self.now.upper_bound range.upper_bound) }
+        ensures err { IfErr result (FailsInTurn (FnReturnsAt F.Fn transform) self.now.lower_bound self.now.upper_bound) }
     {
         let lower_bound = match try_map_by(&self.lower_bound, &transform) {
             Ok(bound) => bound,

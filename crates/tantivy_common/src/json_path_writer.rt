@@ -1,6 +1,6 @@
 // Paths into JSON objects as flat texts.
-ghost use Rattle.std.specs.Prelude.{◌≡◌, ◌++◌, ◌∷◌, [], true, false, OnOk, OnErr, IfOk, if◌then◌else◌, string_bytes};
-ghost use Rattle.tantivy_common.specs.Path.{JsonPath, pushed, popped, ended, empty_path, segment_bytes};
+ghost use Rattle.std.specs.Prelude.{◌≡◌, false, OnOk, OnErr, IfOk, string_bytes};
+ghost use Rattle.tantivy_common.specs.Path.{JsonPath, pushed, popped, ended, empty_path, with_segment};
 
 use common_wire::replace_in_place;
 use std::alloc::{AllocError, Global};
@@ -9,11 +9,13 @@ use std::marker::Model;
 /// Stands between the segments of a path.
 pub const JSON_PATH_SEGMENT_SEP: u8 = 1;
 
+/// The same as a text.
 pub const JSON_PATH_SEGMENT_SEP_STR: &str = "\u{1}";
 
 /// Stands between a path and the value in the term of a path and a value.
 pub const JSON_END_OF_PATH: u8 = 0;
 
+/// The same as a text.
 pub const JSON_END_OF_PATH_STR: &str = "\0";
 
 /// A path that is written segment by segment.
@@ -38,12 +40,14 @@ impl Model for JsonPathWriter {
 }
 
 impl JsonPathWriter {
+    /// The path without segments, in which dots stay.
     pub fn new(alloc: Global) -> Self
         ensures { result ≡ empty_path false }
     {
         JsonPathWriter::with_expand_dots(alloc, false)
     }
 
+    /// The path without segments.
     pub fn with_expand_dots(alloc: Global, expand_dots: bool) -> Self
         ensures { result ≡ empty_path expand_dots }
     {
@@ -65,6 +69,9 @@ impl JsonPathWriter {
     pub fn push(&mut self, segment: &str) -> Result<(), AllocError>
         ensures ok { OnOk result (self.new ≡ pushed self.old segment.now) }
         ensures err { OnErr result (self.new ≡ self.old) }
+
+        // A pop undoes it.
+        ensures undone { OnOk result (popped self.new ≡ self.old) }
     {
         let start = self.path.len();
         let separated = !self.indices.is_empty();
@@ -94,6 +101,7 @@ impl JsonPathWriter {
         }
     }
 
+    /// Takes all segments out.
     pub fn clear(&mut self)
         ensures { self.new ≡ empty_path self.old.expand_dots }
     {
@@ -101,12 +109,14 @@ impl JsonPathWriter {
         self.indices.clear();
     }
 
+    /// The path as a text.
     pub fn as_str(&self) -> &str
         ensures { result.now ≡ self.now.text }
     {
         unsafe { str::from_utf8_unchecked(self.path.as_slice()) }
     }
 
+    /// The same path, in memory of its own.
     pub fn clone(&self, alloc: Global) -> Result<JsonPathWriter, AllocError>
         ensures { IfOk result (λ copy. copy ≡ self.now) }
     {
@@ -125,7 +135,7 @@ fn append(
     segment: &str,
     expand_dots: bool,
 ) -> Result<(), AllocError>
-    ensures ok { OnOk result (path.new.items ≡ path.old.items ++ (if separated then 1 ∷ [] else []) ++ segment_bytes expand_dots segment.now) }
+    ensures ok { OnOk result (path.new.items ≡ with_segment path.old.items separated expand_dots segment.now) }
     ensures err { OnErr result (path.new.items ≡ path.old.items) }
 {
     let start = path.len();

@@ -11,6 +11,7 @@ pub struct VersatileBuffer<A> {
 }
 
 impl<A: Drop> VersatileBuffer<A> {
+    /// A buffer without memory.
     pub fn new(alloc: Global) -> Self
         ensures { result.buffer.items ≡ [] }
     {

@@ -2,6 +2,7 @@
 use Rattle.std.specs.Prelude.{◌≡◌, ℕ, List, [], ◌++◌, Option, Some, None, Result, Ok, Err}
 use Rattle.tantivy_query_grammar.specs.declared.stop.Stop.{Stop}
 use Rattle.tantivy_query_grammar.specs.declared.stop.Stop.TheVariants as stop
+use Rattle.tantivy_query_grammar.specs.declared.cursor.Cursor.{Cursor}
 use Rattle.query_tree.specs.Reader.{Outcome, Found, Failed, Deep, and_then, pure}
 
 -- what a value of the code is read as: a result and the text left
@@ -21,6 +22,10 @@ Gives view (Err e) outcome = Stops e outcome
 abbrev pub Gets : {X A : Type 0} → View X A → Option X → Outcome A → Type 0
 Gets view (Some x) outcome = outcome ≡ Found (view x).0 (view x).1
 Gets view None outcome = outcome ≡ Failed
+
+-- the same for what gives a value and what is left behind it
+abbrev pub Reads : {A : Type 0} → Result (A × Cursor) Stop → Outcome A → Type 0
+Reads result outcome = Gives (λ x. (x.0, x.1.text.now)) result outcome
 
 -- with a text in front of the one that is read
 unfoldable pub with_front : List ℕ → Outcome (List ℕ) → Outcome (List ℕ)

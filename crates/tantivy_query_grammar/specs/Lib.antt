@@ -4,3 +4,4 @@ pub mod Gives
 pub mod FieldStarts
 pub mod Compared
 pub mod Ahead
+pub mod Hashed

@@ -1,5 +1,4 @@
-//! Classes of characters.
-
+// Classes of characters.
 ghost use Rattle.std.specs.Prelude.{◌≡◌};
 ghost use Rattle.query_tree.specs.Characters as characters;
 ghost use Rattle.tantivy_query_grammar.specs.Classes.{test_of};
@@ -54,6 +53,7 @@ fn is_special(c: char) -> bool
     )
 }
 
+/// Whether the character ends a word, where no backslash stands in front.
 #[tactic(auto, unfolding(query_tree::specs::Characters::is_escaped))]
 pub fn is_escaped(c: char) -> bool
     ensures { result ≡ characters.is_escaped c }
@@ -93,6 +93,7 @@ fn is_bound_character(c: char) -> bool
 }
 
 impl Class {
+    /// Whether the character is of the class.
     #[tactic(auto, unfolding(query_tree::specs::Characters::is_field_character))]
     pub fn has(self, c: char) -> bool
         ensures { result ≡ test_of self c }

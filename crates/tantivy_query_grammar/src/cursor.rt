@@ -1,5 +1,4 @@
-//! Where the reading of a query stands.
-
+// Where the reading of a query stands.
 ghost use Rattle.std.specs.Prelude.{◌≡◌};
 ghost use Rattle.tantivy_query_grammar.specs.FieldStarts.{field_starts};
 

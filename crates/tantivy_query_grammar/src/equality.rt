@@ -1,8 +1,7 @@
-//! Equality of trees.
-
+// Equality of trees.
 ghost use Rattle.std.specs.Prelude.{◌≡◌, ◌↔◌, IsTrue};
 ghost use Rattle.query_tree.specs.contracts.tree.UserInputAstPartialEq.TheImpl as comparisons;
-ghost use Rattle.query_tree.specs.contracts.tree.UserInputAstHash.TheImpl as hashes;
+ghost use Rattle.tantivy_query_grammar.specs.Hashed.{AreHashedAlike};
 
 use query_tree::UserInputAst;
 
@@ -16,5 +15,5 @@ pub fn are_equal(left: &UserInputAst, right: &UserInputAst) -> bool
 
 /// Trees that `==` finds equal feed a hasher the same.
 pub fn equal_trees_hash_equally(_left: &UserInputAst, _right: &UserInputAst)
-    ensures { IsTrue (comparisons.ghosts.eq _left.now _right.now) → hashes.ghosts.hash_input _left.now ≡ hashes.ghosts.hash_input _right.now }
+    ensures { IsTrue (comparisons.ghosts.eq _left.now _right.now) → AreHashedAlike _left.now _right.now }
 {}

@@ -1,11 +1,12 @@
-//! Items and trees. What a leaf encloses is read one level further in.
-
-ghost use Rattle.std.specs.Prelude.{◌≡◌, ◌++◌, ◌∷◌, [], None, IfOk};
+// Items and trees. What a leaf encloses is read one level further in.
+ghost use Rattle.std.specs.Prelude.{◌≡◌, ◌++◌, ◌∷◌, [], None, ◌<◌, length, IfOk};
+ghost use Rattle.std.specs.Option.{ForSome};
+ghost use Rattle.query_tree.specs.Decimals.{AreDigits, trimmed_decimal};
 ghost use Rattle.query_tree.specs.Reader as reader;
 ghost use Rattle.query_tree.specs.Grammar as grammar;
 ghost use Rattle.query_tree.specs.Rewriting as rewriting;
 ghost use Rattle.query_tree.specs.Aggregation as aggregation;
-ghost use Rattle.tantivy_query_grammar.specs.Gives.{Gives, with_list};
+ghost use Rattle.tantivy_query_grammar.specs.Gives.{Reads, Gives, with_list};
 
 use crate::classes::Class;
 use crate::cursor::Cursor;
@@ -17,7 +18,7 @@ use owned_bytes::{Boxed, Items, Text};
 use query_tree::{Decimal, Item, Occur, Operand, UserInputAst, aggregated, negated, under_field};
 use std::alloc::{AllocError, Global};
 
-/// `-` or `+`, or nothing.
+// `-` or `+`, or nothing.
 #[tactic(auto, unfolding(query_tree::specs::Grammar::mark))]
 fn mark(at: Cursor) -> (Option<Occur>, Cursor)
     ensures { reader.optional grammar.mark at.entry.text.now ≡ reader.Found result.0 result.1.text.now }
@@ -31,7 +32,7 @@ fn mark(at: Cursor) -> (Option<Occur>, Cursor)
     (None, at)
 }
 
-/// `AND ` or `OR `, or nothing.
+// `AND ` or `OR `, or nothing.
 #[tactic(auto, unfolding(query_tree::specs::Grammar::operand))]
 fn operand(at: Cursor) -> (Option<Operand>, Cursor)
     ensures { reader.optional grammar.operand at.entry.text.now ≡ reader.Found result.0 result.1.text.now }
@@ -46,7 +47,7 @@ fn operand(at: Cursor) -> (Option<Operand>, Cursor)
 }
 
 fn optional_boost(alloc: Global, at: Cursor) -> Result<(Option<Decimal>, Cursor), Stop>
-    ensures { Gives (λ x. (x.0, x.1.text.now)) result (reader.optional grammar.boost at.entry.text.now) }
+    ensures { Reads result (reader.optional grammar.boost at.entry.text.now) }
 {
     match boost(alloc, at) {
         Ok((factor, rest)) => Ok((Some(factor), rest)),
@@ -57,7 +58,7 @@ fn optional_boost(alloc: Global, at: Cursor) -> Result<(Option<Decimal>, Cursor)
 
 #[tactic(auto, unfolding(query_tree::specs::Grammar::boost))]
 fn boost(alloc: Global, at: Cursor) -> Result<(Decimal, Cursor), Stop>
-    ensures { Gives (λ x. (x.0, x.1.text.now)) result (grammar.boost at.entry.text.now) }
+    ensures { Reads result (grammar.boost at.entry.text.now) }
 {
     let rest = take(at, Class::Is('^'))?;
     let (whole, rest) = digits(alloc, rest)?;
@@ -65,23 +66,26 @@ fn boost(alloc: Global, at: Cursor) -> Result<(Decimal, Cursor), Stop>
     Ok((decimal(alloc, &whole, &after_dot)?, rest))
 }
 
-#[tactic(auto, unfolding(query_tree::specs::Grammar::trimmed_decimal))]
+#[tactic(auto, unfolding(query_tree::specs::Decimals::trimmed_decimal))]
 fn decimal(alloc: Global, whole: &Text, after_dot: &Option<Text>) -> Result<Decimal, AllocError>
-    ensures { IfOk result (λ d. d ≡ grammar.trimmed_decimal whole.now after_dot.now) }
+    requires not_empty { 0 < length whole.now }
+    requires digits { AreDigits whole.now }
+    requires fraction_digits { ForSome after_dot.now AreDigits }
+    ensures { IfOk result (λ d. d ≡ trimmed_decimal whole.now after_dot.now) }
 {
     match after_dot {
-        Some(digits) => Decimal::trimmed(alloc, whole.as_str(), digits.as_str()),
-        None => Decimal::trimmed(alloc, whole.as_str(), ""),
+        Some(digits) => Decimal::new(alloc, whole.as_str(), digits.as_str()),
+        None => Decimal::new(alloc, whole.as_str(), ""),
     }
 }
 
 fn is_one(factor: &Decimal) -> bool
     ensures { result ≡ grammar.is_one factor.now }
 {
-    factor.whole.as_str() == "1" && factor.fraction.as_str() == ""
+    factor.whole() == "1" && factor.fraction() == ""
 }
 
-/// A boost of 1 is dropped.
+// A boost of 1 is dropped.
 #[tactic(auto, unfolding(query_tree::specs::Grammar::boosted))]
 fn boosted(
     alloc: Global,
@@ -102,7 +106,7 @@ fn boosted(
 #[cycle(parser)]
 #[tactic(auto, unfolding(query_tree::specs::Grammar::parenthesized))]
 fn parenthesized(alloc: Global, levels: usize, at: Cursor) -> Result<(UserInputAst, Cursor), Stop>
-    ensures { Gives (λ x. (x.0, x.1.text.now)) result (grammar.parenthesized (grammar.enclosed_tree levels) at.entry.text.now) }
+    ensures { Reads result (grammar.parenthesized (grammar.enclosed_tree levels) at.entry.text.now) }
 {
     let rest = take(at, Class::Is('('))?;
     let (tree, rest) = enclosed_tree(alloc, levels, rest)?;
@@ -112,7 +116,7 @@ fn parenthesized(alloc: Global, levels: usize, at: Cursor) -> Result<(UserInputA
 #[cycle(parser)]
 #[tactic(auto, using(query_tree::proofs::Levels::tree_opens, query_tree::proofs::Levels::tree_too_deep))]
 fn enclosed_tree(alloc: Global, levels: usize, at: Cursor) -> Result<(UserInputAst, Cursor), Stop>
-    ensures { Gives (λ x. (x.0, x.1.text.now)) result (grammar.enclosed_tree levels at.entry.text.now) }
+    ensures { Reads result (grammar.enclosed_tree levels at.entry.text.now) }
 {
     if levels == 0 {
         return Err(Stop::Deep);
@@ -123,7 +127,7 @@ fn enclosed_tree(alloc: Global, levels: usize, at: Cursor) -> Result<(UserInputA
 #[cycle(parser)]
 #[tactic(auto, using(query_tree::proofs::Levels::leaf_opens, query_tree::proofs::Levels::leaf_too_deep))]
 fn enclosed_leaf(alloc: Global, levels: usize, at: Cursor) -> Result<(UserInputAst, Cursor), Stop>
-    ensures { Gives (λ x. (x.0, x.1.text.now)) result (grammar.enclosed_leaf levels at.entry.text.now) }
+    ensures { Reads result (grammar.enclosed_leaf levels at.entry.text.now) }
 {
     if levels == 0 {
         return Err(Stop::Deep);
@@ -134,18 +138,18 @@ fn enclosed_leaf(alloc: Global, levels: usize, at: Cursor) -> Result<(UserInputA
 #[cycle(parser)]
 #[tactic(auto, unfolding(query_tree::specs::Grammar::negation))]
 fn negation(alloc: Global, levels: usize, at: Cursor) -> Result<(UserInputAst, Cursor), Stop>
-    ensures { Gives (λ x. (x.0, x.1.text.now)) result (grammar.negation (grammar.enclosed_leaf levels) at.entry.text.now) }
+    ensures { Reads result (grammar.negation (grammar.enclosed_leaf levels) at.entry.text.now) }
 {
     let rest = some_spaces(tag(at, &['N', 'O', 'T'])?)?;
     let (tree, rest) = enclosed_leaf(alloc, levels, rest)?;
     Ok((negated(alloc, tree)?, rest))
 }
 
-/// A field for a whole tree.
+// A field for a whole tree.
 #[cycle(parser)]
 #[tactic(auto, unfolding(query_tree::specs::Grammar::field_group))]
 fn field_group(alloc: Global, levels: usize, at: Cursor) -> Result<(UserInputAst, Cursor), Stop>
-    ensures { Gives (λ x. (x.0, x.1.text.now)) result (grammar.field_group (grammar.enclosed_tree levels) at.entry.text.now) }
+    ensures { Reads result (grammar.field_group (grammar.enclosed_tree levels) at.entry.text.now) }
 {
     let (name, rest) = field(alloc, at)?;
     let rest = take(spaces(rest), Class::Is('('))?;
@@ -157,7 +161,7 @@ fn field_group(alloc: Global, levels: usize, at: Cursor) -> Result<(UserInputAst
 #[cycle(parser)]
 #[tactic(auto, using(query_tree::proofs::Levels::leaf_is), unfolding(query_tree::specs::Grammar::leaf_enclosing))]
 fn leaf(alloc: Global, levels: usize, at: Cursor) -> Result<(UserInputAst, Cursor), Stop>
-    ensures { Gives (λ x. (x.0, x.1.text.now)) result (grammar.leaf levels at.entry.text.now) }
+    ensures { Reads result (grammar.leaf levels at.entry.text.now) }
 {
     match parenthesized(alloc, levels, at) {
         Err(Stop::Failed) => {}
@@ -180,7 +184,7 @@ fn leaf(alloc: Global, levels: usize, at: Cursor) -> Result<(UserInputAst, Curso
     field_group(alloc, levels, at)
 }
 
-/// A leaf with its mark and its boost, behind an operand.
+// A leaf with its mark and its boost, behind an operand.
 #[cycle(parser)]
 #[tactic(auto, unfolding(query_tree::specs::Grammar::item_after))]
 fn item_after(
@@ -189,7 +193,7 @@ fn item_after(
     operand: Option<Operand>,
     at: Cursor,
 ) -> Result<(Item, Cursor), Stop>
-    ensures { Gives (λ x. (x.0, x.1.text.now)) result (grammar.item_after (grammar.leaf levels) operand at.entry.text.now) }
+    ensures { Reads result (grammar.item_after (grammar.leaf levels) operand at.entry.text.now) }
 {
     let (mark, rest) = mark(at);
     let (tree, rest) = leaf(alloc, levels, rest)?;
@@ -208,14 +212,14 @@ fn item_after(
 #[cycle(parser)]
 #[tactic(auto, unfolding(query_tree::specs::Grammar::next_item))]
 fn next_item(alloc: Global, levels: usize, at: Cursor) -> Result<(Item, Cursor), Stop>
-    ensures { Gives (λ x. (x.0, x.1.text.now)) result (grammar.next_item (grammar.leaf levels) at.entry.text.now) }
+    ensures { Reads result (grammar.next_item (grammar.leaf levels) at.entry.text.now) }
 {
     let (operand, rest) = operand(at);
     let (item, rest) = item_after(alloc, levels, operand, spaces(rest))?;
     Ok((item, spaces(rest)))
 }
 
-/// The items that come next, behind those that were found before.
+// The items that come next, behind those that were found before.
 #[cycle(parser)]
 #[tactic(auto, using(crate::proofs::Loops::listed_turn, crate::proofs::Loops::list_stops, crate::proofs::Loops::list_ends, crate::proofs::Loops::list_deep))]
 fn more_items(
@@ -224,7 +228,7 @@ fn more_items(
     mut found: Items<Item>,
     at: Cursor,
 ) -> Result<(Items<Item>, Cursor), Stop>
-    ensures { Gives (λ x. (x.0, x.1.text.now)) result (with_list found (reader.repeated (grammar.next_item (grammar.leaf levels)) at.entry.text.now)) }
+    ensures { Reads result (with_list found (reader.repeated (grammar.next_item (grammar.leaf levels)) at.entry.text.now)) }
 {
     let mut rest = at;
     for _turn in 0..at.text.len() {
@@ -240,11 +244,11 @@ fn more_items(
     Ok((found, rest))
 }
 
-/// One or more items behind spaces, if there are any.
+// One or more items behind spaces, if there are any.
 #[cycle(parser)]
 #[tactic(auto, unfolding(query_tree::specs::Grammar::next_items, crate::specs::Gives::with_list))]
 fn next_items(alloc: Global, levels: usize, at: Cursor) -> Result<(Items<Item>, Cursor), Stop>
-    ensures { Gives (λ x. (x.0, x.1.text.now)) result (grammar.next_items (grammar.leaf levels) at.entry.text.now) }
+    ensures { Reads result (grammar.next_items (grammar.leaf levels) at.entry.text.now) }
 {
     let rest = some_spaces(at)?;
     let (first, rest) = next_item(alloc, levels, rest)?;
@@ -253,10 +257,11 @@ fn next_items(alloc: Global, levels: usize, at: Cursor) -> Result<(Items<Item>, 
     more_items(alloc, levels, found, rest)
 }
 
+/// A tree: items with spaces round them, made one.
 #[cycle(parser)]
 #[tactic(auto, unfolding(query_tree::specs::Grammar::ast_of_leaves))]
 pub fn ast(alloc: Global, levels: usize, at: Cursor) -> Result<(UserInputAst, Cursor), Stop>
-    ensures { Gives (λ x. (x.0, x.1.text.now)) result (grammar.ast levels at.entry.text.now) }
+    ensures { Reads result (grammar.ast levels at.entry.text.now) }
 {
     let (first, rest) = item_after(alloc, levels, None, spaces(at))?;
     let (others, rest) = match next_items(alloc, levels, rest) {

@@ -1,5 +1,4 @@
-//! Ranges, sets, existence, patterns and fields.
-
+// Ranges, sets, existence, patterns and fields.
 ghost use Rattle.std.specs.Prelude.{◌≡◌, ◌++◌, ◌∷◌, [], codes, IsTrue, not};
 ghost use Rattle.query_tree.specs.declared.tree.UserInputLeaf.{UserInputLeaf};
 ghost use Rattle.query_tree.specs.Reader.{◌or◌};
@@ -7,7 +6,7 @@ ghost use Rattle.query_tree.specs.Characters as characters;
 ghost use Rattle.query_tree.specs.Reader as reader;
 ghost use Rattle.query_tree.specs.Grammar as grammar;
 ghost use Rattle.tantivy_query_grammar.specs.Compared.{compared};
-ghost use Rattle.tantivy_query_grammar.specs.Gives.{Gives, Gets, with_list};
+ghost use Rattle.tantivy_query_grammar.specs.Gives.{Reads, Gives, Gets, with_list};
 
 use crate::classes::Class;
 use crate::cursor::Cursor;
@@ -20,7 +19,7 @@ use std::alloc::{AllocError, Global};
 
 #[tactic(auto, unfolding(query_tree::specs::Grammar::bound))]
 fn bound(alloc: Global, at: Cursor) -> Result<(Text, Cursor), Stop>
-    ensures { Gives (λ x. (x.0, x.1.text.now)) result (grammar.bound at.entry.text.now) }
+    ensures { Reads result (grammar.bound at.entry.text.now) }
 {
     match negative_number(alloc, at) {
         Err(Stop::Failed) => started(alloc, Kind::BoundFirst, Kind::Bound, at),
@@ -70,20 +69,20 @@ fn range_of(comparison: Comparison, bound: Text) -> UserInputLeaf
     }
 }
 
-/// A range with one bound, behind a sign.
+// A range with one bound, behind a sign.
 #[tactic(auto, unfolding(query_tree::specs::Grammar::half_range))]
 fn half_range(alloc: Global, at: Cursor) -> Result<(UserInputLeaf, Cursor), Stop>
-    ensures { Gives (λ x. (x.0, x.1.text.now)) result (grammar.half_range at.entry.text.now) }
+    ensures { Reads result (grammar.half_range at.entry.text.now) }
 {
     let (comparison, rest) = sign(spaces(at)).ok_or(Stop::Failed)?;
     let (bound, rest) = bound(alloc, spaces(rest))?;
     Ok((range_of(comparison, bound), rest))
 }
 
-/// Whether the bracket is a square one.
+// Whether the bracket is a square one.
 #[tactic(auto, unfolding(query_tree::specs::Grammar::bracket))]
 fn bracket(square: char, brace: char, at: Cursor) -> Result<(bool, Cursor), Stop>
-    ensures { Gives (λ x. (x.0, x.1.text.now)) result (grammar.bracket square brace at.entry.text.now) }
+    ensures { Reads result (grammar.bracket square brace at.entry.text.now) }
 {
     match after(at, Class::Is(square)) {
         Some(rest) => Ok((true, rest)),
@@ -103,10 +102,10 @@ fn bounded(is_inclusive: bool, text: Text) -> UserInputBound
     }
 }
 
-/// A range between two brackets.
+// A range between two brackets.
 #[tactic(auto, unfolding(query_tree::specs::Grammar::full_range))]
 fn full_range(alloc: Global, at: Cursor) -> Result<(UserInputLeaf, Cursor), Stop>
-    ensures { Gives (λ x. (x.0, x.1.text.now)) result (grammar.full_range at.entry.text.now) }
+    ensures { Reads result (grammar.full_range at.entry.text.now) }
 {
     let (is_lower_inclusive, rest) = bracket('[', '{', at)?;
     let (lower, rest) = bound(alloc, spaces(rest))?;
@@ -123,7 +122,7 @@ fn full_range(alloc: Global, at: Cursor) -> Result<(UserInputLeaf, Cursor), Stop
 
 #[tactic(auto, unfolding(query_tree::specs::Grammar::range))]
 fn range(alloc: Global, at: Cursor) -> Result<(UserInputLeaf, Cursor), Stop>
-    ensures { Gives (λ x. (x.0, x.1.text.now)) result (grammar.range at.entry.text.now) }
+    ensures { Reads result (grammar.range at.entry.text.now) }
 {
     match half_range(alloc, at) {
         Err(Stop::Failed) => full_range(alloc, at),
@@ -131,18 +130,18 @@ fn range(alloc: Global, at: Cursor) -> Result<(UserInputLeaf, Cursor), Stop>
     }
 }
 
-/// One more element, behind spaces.
+// One more element, behind spaces.
 fn next_element(alloc: Global, at: Cursor) -> Result<(Text, Cursor), Stop>
-    ensures { Gives (λ x. (x.0, x.1.text.now)) result (grammar.next_element at.entry.text.now) }
+    ensures { Reads result (grammar.next_element at.entry.text.now) }
 {
     let (_, element, rest) = simple_term(alloc, some_spaces(at)?)?;
     Ok((element, rest))
 }
 
-/// The elements that come next, behind those that were found before.
+// The elements that come next, behind those that were found before.
 #[tactic(auto, using(crate::proofs::Loops::listed_turn, crate::proofs::Loops::list_stops, crate::proofs::Loops::list_ends, crate::proofs::Loops::list_deep))]
 fn more_elements(alloc: Global, mut found: Texts, at: Cursor) -> Result<(Texts, Cursor), Stop>
-    ensures { Gives (λ x. (x.0, x.1.text.now)) result (with_list found (reader.repeated grammar.next_element at.entry.text.now)) }
+    ensures { Reads result (with_list found (reader.repeated grammar.next_element at.entry.text.now)) }
 {
     let mut rest = at;
     for _turn in 0..at.text.len() {
@@ -158,10 +157,10 @@ fn more_elements(alloc: Global, mut found: Texts, at: Cursor) -> Result<(Texts, 
     Ok((found, rest))
 }
 
-/// Terms with spaces between, or none.
+// Terms with spaces between, or none.
 #[tactic(auto, unfolding(query_tree::specs::Grammar::elements, crate::specs::Gives::with_list))]
 fn elements(alloc: Global, at: Cursor) -> Result<(Texts, Cursor), Stop>
-    ensures { Gives (λ x. (x.0, x.1.text.now)) result (grammar.elements at.entry.text.now) }
+    ensures { Reads result (grammar.elements at.entry.text.now) }
 {
     let mut found = Texts::new(alloc);
     match simple_term(alloc, at) {
@@ -176,7 +175,7 @@ fn elements(alloc: Global, at: Cursor) -> Result<(Texts, Cursor), Stop>
 
 #[tactic(auto, unfolding(query_tree::specs::Grammar::set))]
 fn set(alloc: Global, at: Cursor) -> Result<(UserInputLeaf, Cursor), Stop>
-    ensures { Gives (λ x. (x.0, x.1.text.now)) result (grammar.set at.entry.text.now) }
+    ensures { Reads result (grammar.set at.entry.text.now) }
 {
     let rest = tag(spaces(at), &['I', 'N'])?;
     let rest = take(some_spaces(rest)?, Class::Is('['))?;
@@ -194,7 +193,7 @@ fn set(alloc: Global, at: Cursor) -> Result<(UserInputLeaf, Cursor), Stop>
 /// A star that stands for all.
 #[tactic(auto, unfolding(query_tree::specs::Grammar::star_alone))]
 pub fn star_alone(at: Cursor) -> Result<(UserInputLeaf, Cursor), Stop>
-    ensures { Gives (λ x. (x.0, x.1.text.now)) result (grammar.star_alone at.entry.text.now) }
+    ensures { Reads result (grammar.star_alone at.entry.text.now) }
 {
     let rest = take(at, Class::Is('*'))?;
     if is_before(rest, Class::AfterStar) {
@@ -206,14 +205,14 @@ pub fn star_alone(at: Cursor) -> Result<(UserInputLeaf, Cursor), Stop>
 
 #[tactic(auto, unfolding(query_tree::specs::Grammar::exists))]
 fn exists(at: Cursor) -> Result<(UserInputLeaf, Cursor), Stop>
-    ensures { Gives (λ x. (x.0, x.1.text.now)) result (grammar.exists at.entry.text.now) }
+    ensures { Reads result (grammar.exists at.entry.text.now) }
 {
     star_alone(spaces(at))
 }
 
 #[tactic(auto, unfolding(query_tree::specs::Grammar::regex))]
 fn regex(alloc: Global, at: Cursor) -> Result<(UserInputLeaf, Cursor), Stop>
-    ensures { Gives (λ x. (x.0, x.1.text.now)) result (grammar.regex at.entry.text.now) }
+    ensures { Reads result (grammar.regex at.entry.text.now) }
 {
     let rest = take(at, Class::Is('/'))?;
     let (pattern, rest) = started(alloc, Kind::Regex, Kind::Regex, rest)?;
@@ -230,8 +229,7 @@ fn regex(alloc: Global, at: Cursor) -> Result<(UserInputLeaf, Cursor), Stop>
     ))
 }
 
-/// Whether a field with its colon stands here, without reading it.
-
+// Whether a field with its colon stands here, without reading it.
 fn begins_field(at: Cursor) -> bool
     ensures { IsTrue (not result) → grammar.field at.entry.text.now ≡ reader.Failed }
 {
@@ -241,9 +239,10 @@ fn begins_field(at: Cursor) -> bool
     }
 }
 
+/// A field with its colon, and the spaces round that.
 #[tactic(auto, unfolding(query_tree::specs::Grammar::field))]
 pub fn field(alloc: Global, at: Cursor) -> Result<(Text, Cursor), Stop>
-    ensures { Gives (λ x. (x.0, x.1.text.now)) result (grammar.field at.entry.text.now) }
+    ensures { Reads result (grammar.field at.entry.text.now) }
 {
     if !begins_field(at) {
         return Err(Stop::Failed);
@@ -253,10 +252,10 @@ pub fn field(alloc: Global, at: Cursor) -> Result<(Text, Cursor), Stop>
     Ok((name, spaces(rest)))
 }
 
-/// The first of the leaves that have no field of their own here.
+// The first of the leaves that have no field of their own here.
 #[tactic(auto, unfolding(query_tree::specs::Grammar::bare_leaf))]
 fn bare_leaf(alloc: Global, at: Cursor) -> Result<(UserInputLeaf, Cursor), Stop>
-    ensures { Gives (λ x. (x.0, x.1.text.now)) result (grammar.bare_leaf at.entry.text.now) }
+    ensures { Reads result (grammar.bare_leaf at.entry.text.now) }
 {
     match range(alloc, at) {
         Err(Stop::Failed) => {}
@@ -278,7 +277,7 @@ fn bare_leaf(alloc: Global, at: Cursor) -> Result<(UserInputLeaf, Cursor), Stop>
 }
 
 fn optional_field(alloc: Global, at: Cursor) -> Result<(Option<Text>, Cursor), Stop>
-    ensures { Gives (λ x. (x.0, x.1.text.now)) result (reader.optional grammar.field at.entry.text.now) }
+    ensures { Reads result (reader.optional grammar.field at.entry.text.now) }
 {
     match field(alloc, at) {
         Ok((name, rest)) => Ok((Some(name), rest)),
@@ -290,7 +289,7 @@ fn optional_field(alloc: Global, at: Cursor) -> Result<(Option<Text>, Cursor), S
 /// A leaf with its field, if it has one.
 #[tactic(auto, unfolding(query_tree::specs::Grammar::plain_leaf, query_tree::specs::Rewriting::with_field))]
 pub fn plain_leaf(alloc: Global, at: Cursor) -> Result<(UserInputLeaf, Cursor), Stop>
-    ensures { Gives (λ x. (x.0, x.1.text.now)) result (grammar.plain_leaf at.entry.text.now) }
+    ensures { Reads result (grammar.plain_leaf at.entry.text.now) }
 {
     let (name, rest) = optional_field(alloc, at)?;
     let (leaf, rest) = bare_leaf(alloc, rest)?;

@@ -16,6 +16,6 @@ pub use equality::{are_equal, equal_trees_hash_equally};
 pub use query::{parse_query, parse_to_ast};
 pub use query_json::to_json;
 pub use query_tree::{
-    Clauses, Decimal, Delimiter, Error, Occur, ParseError, UserInputAst, UserInputBound,
-    UserInputLeaf, UserInputLiteral,
+    Clauses, CloneClauses, Decimal, Delimiter, Error, Occur, ParseError, UserInputAst,
+    UserInputBound, UserInputLeaf, UserInputLiteral,
 };

@@ -1,5 +1,4 @@
-//! A whole query.
-
+// A whole query.
 ghost use Rattle.std.specs.Prelude.{◌≡◌, IfOk};
 ghost use Rattle.std.specs.Str.{chars};
 ghost use Rattle.query_tree.specs.Grammar as grammar;
@@ -16,7 +15,7 @@ use std::alloc::{AllocError, Global};
 
 const MAX_LEVELS: usize = 128;
 
-/// The tree of all of the text.
+// The tree of all of the text.
 #[tactic(auto, unfolding(query_tree::specs::Grammar::query, query_tree::specs::Reader::end))]
 fn whole(alloc: Global, at: Cursor) -> Result<UserInputAst, Stop>
     ensures { GivesWhole result (grammar.query at.entry.text.now) }

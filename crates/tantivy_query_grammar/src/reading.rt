@@ -1,13 +1,12 @@
-//! Characters of a class, and pieces of texts.
-
+// Characters of a class, and pieces of texts.
 ghost use Rattle.std.specs.Prelude.{◌≡◌, ◌++◌, OnOk};
 ghost use Rattle.query_tree.specs.Reader as reader;
 ghost use Rattle.query_tree.specs.Reader.{◌or◌};
 ghost use Rattle.tantivy_query_grammar.specs.declared.reading.Kind.TheVariants as kind;
-ghost use Rattle.query_tree.specs.Grammar.{spelled, started as started_by, pair as pair_in, pair_word};
+ghost use Rattle.query_tree.specs.Grammar.{started as started_by, pair as pair_in, pair_word};
 ghost use Rattle.tantivy_query_grammar.specs.Classes.{test_of};
-ghost use Rattle.tantivy_query_grammar.specs.Pieces.{piece_of, piece_text};
-ghost use Rattle.tantivy_query_grammar.specs.Gives.{Gives, Gets, with_front};
+ghost use Rattle.tantivy_query_grammar.specs.Pieces.{piece_of, piece_text, plain_piece, escaped_piece, GetsPiece};
+ghost use Rattle.tantivy_query_grammar.specs.Gives.{Reads, Gives, Gets, with_front};
 
 use crate::classes::{Class, is_escaped};
 use crate::cursor::Cursor;
@@ -70,7 +69,7 @@ pub struct Piece {
 }
 
 fn plain(at: Cursor, class: Class) -> Option<(Piece, Cursor)>
-    ensures { Gets (λ x. (piece_text x.0, x.1.text.now)) result (spelled (reader.one (test_of class)) at.entry.text.now) }
+    ensures { GetsPiece result (plain_piece class at.entry.text.now) }
 {
     let (character, rest) = one(at, class)?;
     Some((
@@ -83,7 +82,7 @@ fn plain(at: Cursor, class: Class) -> Option<(Piece, Cursor)>
 }
 
 fn escaped(at: Cursor, class: Class) -> Option<(Piece, Cursor)>
-    ensures { Gets (λ x. (piece_text x.0, x.1.text.now)) result (spelled (pair_in (test_of class)) at.entry.text.now) }
+    ensures { GetsPiece result (escaped_piece class at.entry.text.now) }
 {
     let (character, rest) = pair(at, class)?;
     Some((
@@ -95,10 +94,10 @@ fn escaped(at: Cursor, class: Class) -> Option<(Piece, Cursor)>
     ))
 }
 
-/// The character alone where it is white, escaped or a minus, else both.
+// The character alone where it is white, escaped or a minus, else both.
 #[tactic(auto, unfolding(query_tree::specs::Characters::is_unescaped_in_word))]
 fn pair_in_word(at: Cursor) -> Option<(Piece, Cursor)>
-    ensures { Gets (λ x. (piece_text x.0, x.1.text.now)) result (pair_word at.entry.text.now) }
+    ensures { GetsPiece result (pair_word at.entry.text.now) }
 {
     let (character, rest) = pair(at, Class::Any)?;
     let is_unescaped = character.is_whitespace() || is_escaped(character) || character == '-';
@@ -111,9 +110,9 @@ fn pair_in_word(at: Cursor) -> Option<(Piece, Cursor)>
     ))
 }
 
-/// A backslash and a character of the first class, or a character of the second.
+// A backslash and a character of the first class, or a character of the second.
 fn escaped_or_plain(at: Cursor, marked: Class, bare: Class) -> Option<(Piece, Cursor)>
-    ensures { Gets (λ x. (piece_text x.0, x.1.text.now)) result ((spelled (pair_in (test_of marked)) or spelled (reader.one (test_of bare))) at.entry.text.now) }
+    ensures { GetsPiece result ((escaped_piece marked or plain_piece bare) at.entry.text.now) }
 {
     match escaped(at, marked) {
         None => plain(at, bare),
@@ -121,9 +120,9 @@ fn escaped_or_plain(at: Cursor, marked: Class, bare: Class) -> Option<(Piece, Cu
     }
 }
 
-/// A character of the first class, or a backslash and a character of the second.
+// A character of the first class, or a backslash and a character of the second.
 fn plain_or_escaped(at: Cursor, bare: Class, marked: Class) -> Option<(Piece, Cursor)>
-    ensures { Gets (λ x. (piece_text x.0, x.1.text.now)) result ((spelled (reader.one (test_of bare)) or spelled (pair_in (test_of marked))) at.entry.text.now) }
+    ensures { GetsPiece result ((plain_piece bare or escaped_piece marked) at.entry.text.now) }
 {
     match plain(at, bare) {
         None => escaped(at, marked),
@@ -132,7 +131,7 @@ fn plain_or_escaped(at: Cursor, bare: Class, marked: Class) -> Option<(Piece, Cu
 }
 
 fn field_piece(at: Cursor) -> Option<(Piece, Cursor)>
-    ensures { Gets (λ x. (piece_text x.0, x.1.text.now)) result (piece_of kind.Field at.entry.text.now) }
+    ensures { GetsPiece result (piece_of kind.Field at.entry.text.now) }
 {
     match plain_or_escaped(at, Class::Field, Class::Special) {
         None => plain(at, Class::Is('\\')),
@@ -141,7 +140,7 @@ fn field_piece(at: Cursor) -> Option<(Piece, Cursor)>
 }
 
 fn word_piece(at: Cursor, class: Class) -> Option<(Piece, Cursor)>
-    ensures { Gets (λ x. (piece_text x.0, x.1.text.now)) result ((pair_word or spelled (reader.one (test_of class))) at.entry.text.now) }
+    ensures { GetsPiece result ((pair_word or plain_piece class) at.entry.text.now) }
 {
     match pair_in_word(at) {
         None => plain(at, class),
@@ -151,7 +150,7 @@ fn word_piece(at: Cursor, class: Class) -> Option<(Piece, Cursor)>
 
 /// The next piece of a text of the kind.
 pub fn next_piece(kind: Kind, at: Cursor) -> Option<(Piece, Cursor)>
-    ensures { Gets (λ x. (piece_text x.0, x.1.text.now)) result (piece_of kind at.entry.text.now) }
+    ensures { GetsPiece result (piece_of kind at.entry.text.now) }
 {
     match kind {
         Kind::Quoted(quote) => escaped_or_plain(at, Class::Any, Class::Not(quote)),
@@ -178,7 +177,7 @@ fn push_piece(found: &mut Text, piece: Piece) -> Result<(), AllocError>
 /// The pieces of the kind that come next, behind what was found before.
 #[tactic(auto, using(crate::proofs::Loops::joined_turn, crate::proofs::Loops::front_stops, crate::proofs::Loops::front_ends))]
 pub fn joined(mut found: Text, kind: Kind, at: Cursor) -> Result<(Text, Cursor), Stop>
-    ensures { Gives (λ x. (x.0, x.1.text.now)) result (with_front found (reader.joined (piece_of kind) at.entry.text.now)) }
+    ensures { Reads result (with_front found (reader.joined (piece_of kind) at.entry.text.now)) }
 {
     let mut rest = at;
     for _turn in 0..at.text.len() {
@@ -206,7 +205,7 @@ pub fn skip(at: Cursor, class: Class) -> Cursor
 /// A first piece, and then as many others as there are.
 #[tactic(auto, unfolding(crate::specs::Gives::with_front))]
 pub fn started(alloc: Global, first: Kind, other: Kind, at: Cursor) -> Result<(Text, Cursor), Stop>
-    ensures { Gives (λ x. (x.0, x.1.text.now)) result (started_by (piece_of first) (piece_of other) at.entry.text.now) }
+    ensures { Reads result (started_by (piece_of first) (piece_of other) at.entry.text.now) }
 {
     let Some((piece, rest)) = next_piece(first, at) else {
         return Err(Stop::Failed);

@@ -1,5 +1,4 @@
-//! Where fields start, found in one pass from the end of a query.
-
+// Where fields start, found in one pass from the end of a query.
 ghost use Rattle.std.specs.Prelude.{◌≡◌, ℕ, List, ◌∷◌, IfOk};
 ghost use Rattle.tantivy_query_grammar.specs.FieldStarts.{field_starts, opens, closes, has_colon};
 ghost use Rattle.tantivy_query_grammar.specs.Ahead.{ahead_of};
@@ -57,7 +56,7 @@ fn colon_from(c: char, ahead: Ahead) -> bool
     }
 }
 
-/// What stands behind the character before this one.
+// What stands behind the character before this one.
 fn from(c: char, ahead: Ahead) -> Ahead
     ensures { (rest : List ℕ) → ahead ≡ ahead_of rest → result ≡ ahead_of (c ∷ rest) }
 {

@@ -1,3 +1,4 @@
+// Why a function of the parser reads nothing.
 use std::alloc::{AllocError, AllocFailed};
 
 /// Why nothing was read.

@@ -1,9 +1,9 @@
-//! Numbers, words and terms.
-
-ghost use Rattle.std.specs.Prelude.{◌≡◌, IfOk};
+// Numbers, words and terms.
+ghost use Rattle.std.specs.Prelude.{◌≡◌, ◌<◌, length, IfOk, IfSome};
 ghost use Rattle.query_tree.specs.Reader.{Found};
+ghost use Rattle.query_tree.specs.Decimals.{AreDigits};
 ghost use Rattle.query_tree.specs.Grammar as grammar;
-ghost use Rattle.tantivy_query_grammar.specs.Gives.{Gives};
+ghost use Rattle.tantivy_query_grammar.specs.Gives.{Reads, Gives};
 
 use crate::classes::Class;
 use crate::cursor::Cursor;
@@ -13,27 +13,33 @@ use owned_bytes::Text;
 use query_tree::{Delimiter, UserInputLeaf, UserInputLiteral};
 use std::alloc::{AllocError, Global};
 
+/// Passes over spaces.
 pub fn spaces(at: Cursor) -> Cursor
     ensures { grammar.spaces at.entry.text.now ≡ Found tt result.text.now }
 {
     skip(at, Class::Space)
 }
 
+/// Passes over spaces, one at least.
 pub fn some_spaces(at: Cursor) -> Result<Cursor, Stop>
     ensures { Gives (λ x. (tt, x.text.now)) result (grammar.some_spaces at.entry.text.now) }
 {
     Ok(spaces(take(at, Class::Space)?))
 }
 
+/// Digits, one at least.
 #[tactic(auto, unfolding(query_tree::specs::Grammar::digits))]
 pub fn digits(alloc: Global, at: Cursor) -> Result<(Text, Cursor), Stop>
-    ensures { Gives (λ x. (x.0, x.1.text.now)) result (grammar.digits at.entry.text.now) }
+    ensures read { Reads result (grammar.digits at.entry.text.now) }
+    ensures digits { IfOk result (λ x. AreDigits x.0) }
+    ensures not_empty { IfOk result (λ x. 0 < length x.0) }
 {
     started(alloc, Kind::Digit, Kind::Digit, at)
 }
 
 fn dot_and_digits(alloc: Global, at: Cursor) -> Result<(Text, Cursor), Stop>
-    ensures { Gives (λ x. (x.0, x.1.text.now)) result (grammar.dot_and_digits at.entry.text.now) }
+    ensures read { Reads result (grammar.dot_and_digits at.entry.text.now) }
+    ensures digits { IfOk result (λ x. AreDigits x.0) }
 {
     digits(alloc, take(at, Class::Is('.'))?)
 }
@@ -41,7 +47,8 @@ fn dot_and_digits(alloc: Global, at: Cursor) -> Result<(Text, Cursor), Stop>
 /// A dot and digits, or nothing.
 #[tactic(auto, unfolding(query_tree::specs::Grammar::fraction))]
 pub fn fraction(alloc: Global, at: Cursor) -> Result<(Option<Text>, Cursor), Stop>
-    ensures { Gives (λ x. (x.0, x.1.text.now)) result (grammar.fraction at.entry.text.now) }
+    ensures read { Reads result (grammar.fraction at.entry.text.now) }
+    ensures digits { IfOk result (λ x. IfSome x.0 AreDigits) }
 {
     match dot_and_digits(alloc, at) {
         Ok((digits, rest)) => Ok((Some(digits), rest)),
@@ -63,9 +70,10 @@ fn number_text(alloc: Global, whole: &Text, after_dot: &Option<Text>) -> Result<
     Ok(number)
 }
 
+/// A minus, digits, and a dot with digits where it is there.
 #[tactic(auto, unfolding(query_tree::specs::Grammar::negative_number))]
 pub fn negative_number(alloc: Global, at: Cursor) -> Result<(Text, Cursor), Stop>
-    ensures { Gives (λ x. (x.0, x.1.text.now)) result (grammar.negative_number at.entry.text.now) }
+    ensures { Reads result (grammar.negative_number at.entry.text.now) }
 {
     let rest = take(at, Class::Is('-'))?;
     let (whole, rest) = digits(alloc, rest)?;
@@ -73,10 +81,10 @@ pub fn negative_number(alloc: Global, at: Cursor) -> Result<(Text, Cursor), Stop
     Ok((number_text(alloc, &whole, &after_dot)?, rest))
 }
 
-/// A text between two of these quotes.
+// A text between two of these quotes.
 #[tactic(auto, unfolding(query_tree::specs::Grammar::quoted, crate::specs::Gives::with_front))]
 fn quoted(alloc: Global, quote: char, at: Cursor) -> Result<(Text, Cursor), Stop>
-    ensures { Gives (λ x. (x.0, x.1.text.now)) result (grammar.quoted quote at.entry.text.now) }
+    ensures { Reads result (grammar.quoted quote at.entry.text.now) }
 {
     let rest = take(at, Class::Is(quote))?;
     let (phrase, rest) = joined(Text::new(alloc), Kind::Quoted(quote), rest)?;
@@ -91,7 +99,7 @@ fn is_reserved(word: &str) -> bool
 
 #[tactic(auto, unfolding(query_tree::specs::Grammar::word))]
 fn word(alloc: Global, at: Cursor) -> Result<(Text, Cursor), Stop>
-    ensures { Gives (λ x. (x.0, x.1.text.now)) result (grammar.word at.entry.text.now) }
+    ensures { Reads result (grammar.word at.entry.text.now) }
 {
     let (word, rest) = started(alloc, Kind::WordFirst, Kind::Word, at)?;
     if is_reserved(word.as_str()) {
@@ -140,7 +148,7 @@ fn number_of(digits: &[u8]) -> Option<u32>
 
 #[tactic(auto, unfolding(query_tree::specs::Grammar::slop))]
 fn slop(alloc: Global, at: Cursor) -> Result<(u32, Cursor), Stop>
-    ensures { Gives (λ x. (x.0, x.1.text.now)) result (grammar.slop at.entry.text.now) }
+    ensures { Reads result (grammar.slop at.entry.text.now) }
 {
     let (digits, rest) = digits(alloc, take(at, Class::Is('~'))?)?;
     match number_of(digits.as_str().as_bytes()) {
@@ -149,7 +157,7 @@ fn slop(alloc: Global, at: Cursor) -> Result<(u32, Cursor), Stop>
     }
 }
 
-/// The slop, and whether a prefix is meant.
+// The slop, and whether a prefix is meant.
 #[tactic(auto, unfolding(query_tree::specs::Grammar::term_end))]
 fn term_end(alloc: Global, at: Cursor) -> Result<(u32, bool, Cursor), Stop>
     ensures { Gives (λ x. ((x.0, x.1), x.2.text.now)) result (grammar.term_end at.entry.text.now) }
@@ -164,9 +172,10 @@ fn term_end(alloc: Global, at: Cursor) -> Result<(u32, bool, Cursor), Stop>
     }
 }
 
+/// A word or phrase with its end, as a literal without a field.
 #[tactic(auto, unfolding(query_tree::specs::Grammar::term))]
 pub fn term(alloc: Global, at: Cursor) -> Result<(UserInputLeaf, Cursor), Stop>
-    ensures { Gives (λ x. (x.0, x.1.text.now)) result (grammar.term at.entry.text.now) }
+    ensures { Reads result (grammar.term at.entry.text.now) }
 {
     let (delimiter, phrase, rest) = simple_term(alloc, at)?;
     let (slop, prefix, rest) = term_end(alloc, rest)?;

@@ -10,20 +10,21 @@ use Rattle.owned_bytes.specs.Front.{◌>>=◌, provided, continued, pieces}
 use Rattle.owned_bytes.specs.Keys.{Key, is_same, is_equal}
 use Rattle.owned_bytes.specs.Outside.{HasLength}
 use Rattle.owned_bytes.proofs.Pieces.{pieces-step, bind_some, some_is, provided-true}
-use Rattle.sstable_blocks.specs.Codec.{Codec}
+use Rattle.sstable_values.specs.Codec.{Codec}
 use Rattle.sstable_blocks.specs.Content.{Found}
 unfoldable use Rattle.sstable_blocks.specs.Content.{block_at}
 unfoldable use Rattle.sstable_blocks.specs.Block.{block_of}
 use Rattle.sstable_blocks.specs.Run.{Block, Run, block_or_end, front_of_blocks, last_key, may_follow, key_before, entries_of}
 unfoldable use Rattle.sstable_blocks.specs.Run.{blocks_after, whole_run_of}
 use Rattle.sstable_blocks.proofs.RunLaws.{blocks-shrink, block-split}
-use Rattle.tantivy_sstable.specs.Index.{is_zeros}
-use Rattle.tantivy_sstable.specs.Table.{keeping_nothing, indexes}
-unfoldable use Rattle.tantivy_sstable.specs.Table.{points_to, places_from, blocks_of, blocks_under}
-use Rattle.tantivy_sstable.specs.Opened.{Opened, blocks_told, longest, FetchesBlock}
-use Rattle.tantivy_sstable.specs.Shown.{shown_index}
-use Rattle.tantivy_sstable.specs.declared.index.SSTableIndex.{SSTableIndex}
-use Rattle.tantivy_sstable.specs.declared.index.SSTableIndex.TheVariants.{V2, V3Empty}
+use Rattle.sstable_format.specs.Index.{is_zeros}
+use Rattle.sstable_format.specs.Table.{keeping_nothing, indexes}
+unfoldable use Rattle.sstable_format.specs.Table.{points_to, places_from, blocks_of, blocks_under}
+use Rattle.tantivy_sstable.specs.Opened.{Opened, blocks_told, FetchesBlock}
+use Rattle.sstable_format.specs.Table.{longest}
+use Rattle.sstable_index.specs.Shown.{shown_index}
+use Rattle.sstable_index.specs.declared.index.SSTableIndex.{SSTableIndex}
+use Rattle.sstable_index.specs.declared.index.SSTableIndex.TheVariants.{V2, V3Empty}
 
 then-equal : (o r : Ordering) → is_equal (ordering_then o r) ≡ true → is_equal r ≡ true
 then-equal Less r e = absurd cc

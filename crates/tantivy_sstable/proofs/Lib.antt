@@ -1,12 +1,6 @@
-pub mod Ends
-pub mod OpeningLaws
 pub mod Opens
-pub mod ReadingLaws
-pub mod RisingRuns
+pub mod FileLaws
+pub mod Finding
 pub mod Seeking
-pub mod Keeping
-pub mod Inserting
-pub mod Finishing
-pub mod RangeTables
 pub mod Standing
 pub mod Fetching

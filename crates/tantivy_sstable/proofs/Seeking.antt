@@ -7,11 +7,18 @@ use Rattle.std.specs.declared.cmp.Ordering.{Ordering}
 use Rattle.std.specs.declared.cmp.Ordering.TheVariants.{Less, Equal, Greater}
 use Rattle.owned_bytes.specs.Keys.{Key, is_below, is_same, is_less, is_equal}
 unfoldable use Rattle.owned_bytes.specs.Keys.{is_rising}
-use Rattle.sstable_blocks.specs.Codec.{Codec}
+use Rattle.sstable_values.specs.Codec.{Codec}
 unfoldable use Rattle.sstable_blocks.specs.Run.{run_of}
-unfoldable use Rattle.tantivy_sstable.specs.Between.{value_at}
-use Rattle.tantivy_sstable.specs.Reading.{Reads, HasLeft, Takes, Seeks}
-use Rattle.tantivy_sstable.proofs.RisingRuns.{run_of-rising}
+unfoldable use Rattle.sstable_format.specs.Entries.{value_at}
+use Rattle.sstable_tables.specs.Reading.{Reads, HasLeft, Takes}
+use Rattle.sstable_format.proofs.RisingRuns.{run_of-rising}
+
+-- Of the entries of a table, those that are still to come have the value at the key, if any has it.
+pub record Seeks {V : Type 0} (codec : Codec V) (reads : Reads V) (entries : List (Key × V)) (key : Key) : Type 0 where
+  pub left : List (Key × V)
+  pub has : HasLeft codec reads left
+  pub same : value_at key entries ≡ value_at key left
+  pub rising : is_rising (map (λ entry. entry.0) left) ≡ true
 
 less-is : (o : Ordering) → is_less o ≡ true → o ≡ Less
 less-is Less e = refl

@@ -1,70 +1,80 @@
 -- A reader that goes over bytes stands at its place in them, where a block that it answers to be compressed stands.
-use Rattle.std.proofs.Common.{◌≡◌, ℕ, ◌+◌, ◌-◌, ◌≤◌, List, [], ◌∷◌, length, take, drop, Bool, true, false, cond, ◌&&◌, Option, Some, None, Result, Ok, Err, refl, ap, sym, ◌∙◌, subst, ⊎_elim, arith, drop-drop}
+use Rattle.std.proofs.Common.{◌≡◌, ℕ, ◌+◌, ◌-◌, ◌≤◌, List, [], ◌∷◌, length, take, drop, Bool, true, false, cond, ◌&&◌, Option, Some, None, Result, Ok, Err, refl, ap, sym, ◌∙◌, subst, arith, drop-drop}
 use Rattle.std.specs.Prelude.{nat_lt, nat_le, is_some, not, ◌==◌, slice_range, IfErr}
 use Rattle.std.specs.Int.{w8, w32, from_le_bytes}
 use Rattle.std.proofs.lemmas.Bool.{le-leb, ltb-false, eqb-true}
 use Rattle.owned_bytes.specs.Front.{◌>>=◌, provided, number_at}
 use Rattle.owned_bytes.specs.Outside.{IsPart}
 use Rattle.common_wire.specs.Slices.{Span}
-use Rattle.sstable_blocks.specs.declared.errors.BlockError.{BlockError}
-use Rattle.sstable_blocks.specs.declared.errors.BlockError.TheVariants as blocks
-use Rattle.sstable_blocks.specs.Codec.{Codec}
-use Rattle.sstable_blocks.specs.Values.{Values}
+use Rattle.sstable_values.specs.declared.errors.BlockError.{BlockError}
+use Rattle.sstable_values.specs.declared.errors.BlockError.TheVariants as blocks
+use Rattle.sstable_values.specs.Codec.{Codec}
+use Rattle.sstable_values.specs.Values.{Values}
 use Rattle.sstable_blocks.specs.Content.{Found, content_after}
 unfoldable use Rattle.sstable_blocks.specs.Content.{block_at}
 unfoldable use Rattle.sstable_blocks.specs.Delta.{delta_at}
-use Rattle.sstable_blocks.specs.Entries.{Entry, Walk, Step, IsFresh, MemoryOr, entry_at, to_entry, to_first, to_block, onward, step_from, step}
+use Rattle.sstable_blocks.specs.Entries.{Entry, Walk, Step, entry_at, to_entry, to_first, to_block, onward}
+use Rattle.sstable_blocks.specs.BlockReader.{before_bytes}
+use Rattle.sstable_blocks.specs.Slices.{Sliced, Begins, Steps, StepsIn, Stays}
+use Rattle.sstable_blocks.proofs.SliceLaws.{ready-one}
 use Rattle.sstable_blocks.proofs.BlockLaws.{block-parts}
-use Rattle.tantivy_sstable.specs.Opening.{is_compressed_at, IsReadError}
-use Rattle.tantivy_sstable.specs.Reading.{TellsPlace, TellsPlaceAt, error_of_block}
-use Rattle.tantivy_sstable.specs.declared.errors.SstError.{SstError}
-use Rattle.tantivy_sstable.specs.declared.errors.SstError.TheVariants as errors
-use Rattle.tantivy_sstable.proofs.Ends.{number_at-front}
+use Rattle.sstable_format.specs.Refused.{is_compressed_at}
+use Rattle.tantivy_sstable.specs.Finding.{TellsPlace, TellsPlaceAt}
+use Rattle.sstable_index.specs.Errors.{error_of_block, error_of_handle}
+use Rattle.owned_bytes.specs.declared.outside.HandleError.{HandleError}
+use Rattle.owned_bytes.specs.declared.outside.HandleError.TheVariants as handle
+use Rattle.sstable_index.specs.declared.errors.SstError.{SstError}
+use Rattle.sstable_index.specs.declared.errors.SstError.TheVariants as errors
+use Rattle.sstable_format.proofs.Ends.{number_at-front}
 
--- no error came, and the bytes after the block are those from the place on
-pub record Stands {V : Type 0} (bytes : List ℕ) (walk : Walk V) : Type 0 where
-  pub failed : walk.failed ≡ None
-  pub rest : walk.rest ≡ drop walk.place bytes
+-- Neither the end nor an error came, in the only slice, and the bytes after the block are those from the place on.
+pub record Stands {V : Type 0} (bytes : List ℕ) (stands : Sliced V) : Type 0 where
+  pub going : stands.final ≡ None
+  pub one : stands.more ≡ []
+  pub rest : stands.walk.rest ≡ drop stands.walk.place bytes
 
-pub stands-begin : {V : Type 0} (bytes : List ℕ) (walk : Walk V) → IsFresh walk bytes 0 → Stands bytes walk
-stands-begin bytes walk f = record { failed = f.no_error; rest = f.bytes ∙ ap (λ n. drop n bytes) (sym f.start) }
+pub stands-begin : {V : Type 0} (codec : Codec V) (bytes : List ℕ) (stands : Sliced V) → Begins codec stands (before_bytes bytes 0) → Stands bytes stands
+stands-begin codec bytes stands b = record { going = b.no_answer; one = b.slices; rest = b.fresh.bytes ∙ ap (λ n. drop n bytes) (sym b.fresh.start) }
 
 step-is : {V : Type 0} (x y : Walk V) → ◌≡◌ {A = Step V} (Ok (Some x)) (Ok (Some y)) → x ≡ y
 step-is x y e = cc
 
 -- the bytes after the block stay
 abbrev Same : {V : Type 0} → Walk V → Walk V → Type 0
-Same old new = (new.failed ≡ old.failed) × (new.rest ≡ old.rest) × (new.place ≡ old.place)
+Same old new = (new.rest ≡ old.rest) × (new.place ≡ old.place)
+
+-- the bytes after the block are those from the place on
+abbrev Behind : {V : Type 0} → List ℕ → Walk V → Type 0
+Behind bytes walk = walk.rest ≡ drop walk.place bytes
 
 entry-same : {V : Type 0} (walk new : Walk V) (o : Option (Entry V × List ℕ)) → to_entry walk o ≡ Ok (Some new) → Same walk new
 entry-same walk new None e = absurd cc
 entry-same walk new (Some found) e =
     let same = step-is _ new e in
-    (sym (ap (λ (w : Walk _). w.failed) same), sym (ap (λ (w : Walk _). w.rest) same), sym (ap (λ (w : Walk _). w.place) same))
+    (sym (ap (λ (w : Walk _). w.rest) same), sym (ap (λ (w : Walk _). w.place) same))
 
 first-same : {V : Type 0} (walk new : Walk V) (o : Option (Values V × List ℕ)) → to_first walk o ≡ Ok (Some new) → Same walk new
 first-same walk new None e = absurd cc
 first-same walk new (Some found) e = entry-same (record walk { values = found.0; given = 0; deltas = found.1 }) new (entry_at found.0 0 found.1) e
 
-block-stands : {V : Type 0} (codec : Codec V) (bytes : List ℕ) (walk new : Walk V) (found : Found) → Stands bytes walk → block_at walk.place walk.rest ≡ found → to_block codec walk found ≡ Ok (Some new) → Stands bytes new
+block-stands : {V : Type 0} (codec : Codec V) (bytes : List ℕ) (walk new : Walk V) (found : Found) → Behind bytes walk → block_at walk.place walk.rest ≡ found → to_block codec walk found ≡ Ok (Some new) → Behind bytes new
 block-stands codec bytes walk new (Err error) s is e = absurd cc
 block-stands codec bytes walk new (Ok None) s is e = absurd cc
 block-stands codec bytes walk new (Ok (Some found)) s is e =
     let same = first-same (record walk { rest = found.1; place = walk.place + (5 + length found.0) }) new (codec.values_of found.0) e in
     let parts = block-parts walk.place walk.rest found.0 found.1 is in
-    record {
-      failed = same.0 ∙ s.failed;
-      rest = same.1 ∙ parts.2 ∙ ap (drop (5 + length found.0)) s.rest ∙ drop-drop (5 + length found.0) walk.place bytes ∙ ap (λ n. drop n bytes) (sym same.2);
-    }
+    same.0 ∙ parts.2 ∙ ap (drop (5 + length found.0)) s ∙ drop-drop (5 + length found.0) walk.place bytes ∙ ap (λ n. drop n bytes) (sym same.1)
 
-onward-stands : {V : Type 0} (codec : Codec V) (bytes : List ℕ) (old new : Walk V) (deltas : List ℕ) → Stands bytes old → onward codec old deltas ≡ Ok (Some new) → Stands bytes new
+onward-stands : {V : Type 0} (codec : Codec V) (bytes : List ℕ) (old new : Walk V) (deltas : List ℕ) → Behind bytes old → onward codec old deltas ≡ Ok (Some new) → Behind bytes new
 onward-stands codec bytes old new [] s e = block-stands codec bytes old new (block_at old.place old.rest) s refl e
 onward-stands codec bytes old new (b ∷ deltas) s e =
     let same = entry-same old new (entry_at old.values old.given old.deltas) e in
-    record { failed = same.0 ∙ s.failed; rest = same.1 ∙ s.rest ∙ ap (λ n. drop n bytes) (sym same.2) }
+    same.0 ∙ s ∙ ap (λ n. drop n bytes) (sym same.1)
 
-pub stands-more : {V : Type 0} (codec : Codec V) (bytes : List ℕ) (old new : Walk V) → Stands bytes old → step codec old ≡ Ok (Some new) → Stands bytes new
-stands-more codec bytes old new s e = onward-stands codec bytes old new old.deltas s (ap (step_from codec old) (sym s.failed) ∙ e)
+pub stands-more : {V : Type 0} (codec : Codec V) (bytes : List ℕ) (old new : Sliced V) → Stands bytes old → (old.final ≡ None → Steps codec old new (Ok true)) → Stays new (Ok true) → Stands bytes new
+stands-more codec bytes old new s steps stays =
+    let step = subst (λ o. StepsIn codec o new (Ok true)) (ready-one old s.one) (steps s.going) in
+    record { going = stays.1; one = step.1 ∙ s.one; rest = onward-stands codec bytes old.walk new.walk old.walk.deltas s.rest step.0 }
 
 no_end : (b : Bool) (r : Found) (error : BlockError) → cond b (Ok None) r ≡ Err error → (b ≡ false) × (r ≡ Err error)
 no_end true r error e = absurd cc
@@ -124,17 +134,18 @@ block-compressed {V} codec walk (Err error) p e = ap Err (error-is {V = V} error
 block-compressed codec walk (Ok None) p e = absurd cc
 block-compressed codec walk (Ok (Some found)) p e = absurd (first-plain (record walk { rest = found.1; place = walk.place + (5 + length found.0) }) (codec.values_of found.0) p e)
 
-onward-compressed : {V : Type 0} (codec : Codec V) (bytes : List ℕ) (walk : Walk V) (deltas : List ℕ) (p : ℕ) → Stands bytes walk → onward codec walk deltas ≡ Err (blocks.Compressed p) → is_compressed_at p bytes ≡ true
+onward-compressed : {V : Type 0} (codec : Codec V) (bytes : List ℕ) (walk : Walk V) (deltas : List ℕ) (p : ℕ) → Behind bytes walk → onward codec walk deltas ≡ Err (blocks.Compressed p) → is_compressed_at p bytes ≡ true
 onward-compressed codec bytes walk [] p s e =
     let here = found-compressed walk.place p walk.rest (block-compressed codec walk (block_at walk.place walk.rest) p e) in
-    ap (λ n. is_compressed_at n bytes) (sym here.0) ∙ ap (is_compressed_at 0) (sym s.rest) ∙ here.1
+    ap (λ n. is_compressed_at n bytes) (sym here.0) ∙ ap (is_compressed_at 0) (sym s) ∙ here.1
 onward-compressed codec bytes walk (b ∷ deltas) p s e = absurd (entry-plain walk (entry_at walk.values walk.given walk.deltas) p e)
 
 -- what a step tells that is an error
-pub stands-compressed : {V : Type 0} (codec : Codec V) (bytes : List ℕ) (walk : Walk V) (error : BlockError) → Stands bytes walk → MemoryOr error (step codec walk ≡ Err error) → TellsPlace bytes (error_of_block error)
-stands-compressed codec bytes walk blocks.Memory s e = tt
-stands-compressed codec bytes walk blocks.Corrupt s e = tt
-stands-compressed codec bytes walk (blocks.Compressed p) s e = onward-compressed codec bytes walk walk.deltas p s (ap (step_from codec walk) (sym s.failed) ∙ e)
+pub stands-compressed : {V : Type 0} (codec : Codec V) (bytes : List ℕ) (old new : Sliced V) (error : BlockError) → Stands bytes old → (old.final ≡ None → Steps codec old new (Err error)) → TellsPlace bytes (error_of_block error)
+stands-compressed codec bytes old new blocks.Memory s steps = tt
+stands-compressed codec bytes old new blocks.Corrupt s steps = tt
+stands-compressed codec bytes old new (blocks.Compressed p) s steps =
+    onward-compressed codec bytes old.walk old.walk.deltas p s.rest (subst (λ o. StepsIn codec o new (Err (blocks.Compressed p))) (ready-one old s.one) (steps s.going))
 
 -- the same of the bytes that a file's part was
 pub tells-at : (contents : Option (List ℕ)) (range : Span) (start end : ℕ) (part : List ℕ) (error : SstError) → start ≡ range.start → end ≡ range.end → IsPart contents start end part → TellsPlace part error → TellsPlaceAt contents range error
@@ -148,9 +159,13 @@ tells-at (Some bytes) range start end part (errors.Version version) a b is tells
 tells-at (Some bytes) range start end part errors.NotYet a b is tells = tt
 
 -- a failed read tells no place
-pub tells-unread : (contents : Option (List ℕ)) (range : Span) (error : SstError) → IsReadError error → TellsPlaceAt contents range error
-tells-unread None range error is = tt
-tells-unread (Some bytes) range error is = ⊎_elim (λ e. subst (TellsPlaceAt (Some bytes) range) (sym e) tt) (λ e. subst (TellsPlaceAt (Some bytes) range) (sym e) tt) is
+pub tells-unread : (contents : Option (List ℕ)) (range : Span) (h : HandleError) (error : SstError) → error ≡ error_of_handle h → TellsPlaceAt contents range error
+tells-unread None range h error is = tt
+tells-unread (Some bytes) range h error is = subst (TellsPlaceAt (Some bytes) range) (sym is) (by h)
+  where
+    by : (h : HandleError) → TellsPlaceAt (Some bytes) range (error_of_handle h)
+    by handle.Memory = tt
+    by handle.Failed = tt
 
 pub tells-result : {A : Type 0} (contents : Option (List ℕ)) (range : Span) (start end : ℕ) (part : List ℕ) (result : Result A SstError) → start ≡ range.start → end ≡ range.end → IsPart contents start end part
     → IfErr result (TellsPlace part) → IfErr result (TellsPlaceAt contents range)

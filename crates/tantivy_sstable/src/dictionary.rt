@@ -1,29 +1,26 @@
 // Tables that are looked up.
-ghost use Rattle.std.specs.Prelude.{◌≡◌, ◌≢◌, ◌≤◌, ◌+◌, ◌-◌, ◌<◌, ℕ, List, length, take, drop, min, true, IfOk, IfErr, Err, Ok, Some};
-ghost use Rattle.std.specs.Int.{w32, w64, from_le_bytes};
-ghost use Rattle.owned_bytes.specs.Outside.{HasCause, RisesAtMost, IsPart};
-ghost use Rattle.tantivy_sstable.specs.Opening.{Opens, OpensAt, without_file, FetchesIndex, LiesWithin, IsReadError, is_known};
-ghost use Rattle.tantivy_sstable.specs.Opened.{entries_told, blocks_told, FetchesBlock};
-ghost use Rattle.tantivy_sstable.specs.Reading.{FindsTold, IsReadingError, TellsPlaceAt};
-ghost use Rattle.tantivy_sstable.specs.Steps.{ReadsFooter, ReadsIndex};
+ghost use Rattle.std.specs.Prelude.{◌≡◌, ◌≢◌, ◌≤◌, ◌+◌, ◌-◌, ◌<◌, ℕ, List, length, min, true, IfOk, IfErr, Err};
+ghost use Rattle.owned_bytes.specs.Outside.{ReadsFile};
+ghost use Rattle.common_wire.specs.Slices.{span_len};
+ghost use Rattle.sstable_format.specs.Ending.{IsEnding};
+ghost use Rattle.sstable_format.specs.Version as versions;
+ghost use Rattle.sstable_index.specs.Errors.{ReadFailed};
+ghost use Rattle.sstable_index.specs.Shown.{IsWhole};
+ghost use Rattle.tantivy_sstable.specs.Opening.{Opens, OpensAt, TellsAt, LiesWithin, ReadsEnds, without_file};
+ghost use Rattle.tantivy_sstable.specs.Opened.{ReadsBlocks};
+ghost use Rattle.tantivy_sstable.specs.Finding.{FindsIn, IsReadingError, TellsPlaceAt};
+ghost use Rattle.tantivy_sstable.specs.Steps.{ReadsFooter, ReadsIndexAt, part_len};
 
 use crate::lookup::value_in;
-use crate::{SSTable, SSTableIndex, SSTableIndexV2, SSTableIndexV3Empty, SstError, Writer};
+use crate::{SSTable, SSTableIndex, SstError, Writer};
 use common_wire::FileSlice;
-use owned_bytes::{BytesFile, FileHandle, HandleError, OwnedBytes, Sink};
+use owned_bytes::{BytesFile, FileHandle, HasLen, OwnedBytes, Sink};
+use sstable_format::{FOOTER_LEN, Footer, VERSION_LEN, is_known, version_of};
 use std::alloc::Global;
 use std::marker::{Model, PhantomData};
-use std::ops::Range;
 
-const FOOTER_LEN: usize = 20;
-
-// What a table's last 20 bytes say.
-#[derive(Clone, Copy)]
-struct Footer {
-    index_offset: u64,
-    num_terms: u64,
-    version: u32,
-}
+// A table of version 2 that has keys has at least so many bytes.
+const KEYED_V2_LEN: usize = 28;
 
 /// A sorted map from byte strings to values in a file, which is read as it is looked up.
 ///
@@ -32,6 +29,7 @@ struct Footer {
 pub struct Dictionary<S: SSTable> {
     /// The table's bytes before its index part.
     pub sstable_slice: FileSlice,
+    /// Where the table's blocks are.
     pub sstable_index: SSTableIndex,
     num_terms: u64,
     phantom: PhantomData<S>,
@@ -43,7 +41,7 @@ impl<S: SSTable> Model for Dictionary<S> {
 
     ghost Value = { Opened };
 
-    ghost use Rattle.tantivy_sstable.specs.Shown.{shown_index, IsWhole};
+    ghost use Rattle.sstable_index.specs.Shown.{shown_index, IsWhole};
 
     ghost view = { λ d. record { blocks_range = d.sstable_slice; index = shown_index d.sstable_index; num_terms = d.num_terms } };
 
@@ -60,14 +58,11 @@ impl<S: SSTable> Dictionary<S> {
 }
 
 impl<S: SSTable> Dictionary<S> {
-    ghost use Rattle.std.specs.Prelude.{[]};
-    ghost use Rattle.tantivy_sstable.specs.Making.{HasInserted};
-    ghost use Rattle.tantivy_sstable.specs.Writer.{writes, table_sink};
+    ghost use Rattle.sstable_tables.specs.Making.{Begins};
 
     /// A writer of a table that is appended to what the sink has.
     pub fn builder<W: Sink>(alloc: Global, wrt: W) -> Writer<W, S::ValueWriter>
-        ensures sink { table_sink result ≡ wrt }
-        ensures entries { HasInserted (writes S.ValueWriter.written W.written W.faults result) (W.written wrt) [] }
+        ensures { Begins result wrt }
     {
         Writer::new(alloc, wrt)
     }
@@ -80,45 +75,25 @@ impl<S: SSTable> Dictionary<S> {
         handle: &mut H,
         file: FileSlice,
     ) -> Result<Self, SstError>
-        requires { file.end ≤ H.size handle.old }
-        ensures opened { OpensAt S.ValueReader.codec (H.contents handle.old) file result }
+        requires { file.end ≤ (H.state handle.old).size }
+        ensures opened { OpensAt S.ValueReader.codec (H.state handle.old).contents file result }
         ensures within { IfOk result (λ opened. LiesWithin opened.blocks_range file) }
-        ensures short { file.end - file.start < 4 → result ≡ Err SstError.Corrupt }
-        ensures contents { H.contents handle.new ≡ H.contents handle.old }
-        ensures size { H.size handle.new ≡ H.size handle.old }
-        ensures cause { HasCause (H.faults handle.old) (H.faults handle.new) (result ≡ Err SstError.Read) }
-        ensures reads { RisesAtMost (H.reads handle.old) (H.reads handle.new) 2 }
-        ensures fetched { FetchesIndex (H.contents handle.old) file (H.fetched handle.old) (H.fetched handle.new) }
-        ensures fetched_rise { H.fetched handle.old ≤ H.fetched handle.new }
+        ensures short { span_len file < VERSION_LEN → result ≡ Err SstError.Corrupt }
+        ensures reads { ReadsEnds (H.state handle.old) (H.state handle.new) file (ReadFailed result) }
     {
-        let range = file.range();
-        let len = range.end - range.start;
-        if len < 4 {
+        if file.len() < VERSION_LEN {
             return Err(SstError::Corrupt);
         }
-        let ending = match read_part(alloc, handle, range.end - len.min(FOOTER_LEN)..range.end) {
-            Ok(ending) => ending,
-            Err(e) => return Err(e),
-        };
-        let footer = match footer_of(ending, len) {
+        let footer = match read_footer(alloc, handle, file) {
             Ok(footer) => footer,
             Err(e) => return Err(e),
         };
-        let index_offset = footer.index_offset as usize;
-        let index_part = match read_part(
-            alloc,
-            handle,
-            range.start + index_offset..range.end - FOOTER_LEN,
-        ) {
-            Ok(index_part) => index_part,
-            Err(e) => return Err(e),
-        };
-        let sstable_index = match index_of(&footer, index_part.as_slice()) {
+        let sstable_index = match read_index(alloc, handle, file, &footer) {
             Ok(sstable_index) => sstable_index,
             Err(e) => return Err(e),
         };
         Ok(Dictionary {
-            sstable_slice: file.slice(0..index_offset),
+            sstable_slice: file.slice_to(footer.index_offset as usize),
             sstable_index,
             num_terms: footer.num_terms,
             phantom: PhantomData,
@@ -130,7 +105,7 @@ impl<S: SSTable> Dictionary<S> {
         ensures opened { Opens S.ValueReader.codec bytes bytes (without_file result) }
         ensures within { IfOk result (λ both. both.0.blocks_range.end ≤ length bytes) }
         ensures file { IfOk result (λ both. both.1.contents ≡ bytes) }
-        ensures short { length bytes < 4 → result ≡ Err SstError.Corrupt }
+        ensures short { length bytes < VERSION_LEN → result ≡ Err SstError.Corrupt }
         ensures error { IfErr result (λ e. e ≢ SstError.Read) }
     {
         let mut file = BytesFile::new(bytes);
@@ -148,131 +123,85 @@ impl<S: SSTable> Dictionary<S> {
         handle: &mut H,
         key: &[u8],
     ) -> Result<Option<S::Value>, SstError>
-        requires { self.now.blocks_range.end ≤ H.size handle.old }
-        ensures found { FindsTold S.Value.shown (entries_told S.ValueReader.codec self.now (H.contents handle.old)) key.now result }
+        requires { self.now.blocks_range.end ≤ (H.state handle.old).size }
+        ensures found { FindsIn S.ValueReader.codec S.Value.shown self.now (H.state handle.old).contents key.now result }
         ensures error { IfErr result IsReadingError }
-        ensures compressed { IfErr result (TellsPlaceAt (H.contents handle.old) self.now.blocks_range) }
-        ensures contents { H.contents handle.new ≡ H.contents handle.old }
-        ensures size { H.size handle.new ≡ H.size handle.old }
-        ensures cause { HasCause (H.faults handle.old) (H.faults handle.new) (result ≡ Err SstError.Read) }
-        ensures reads { RisesAtMost (H.reads handle.old) (H.reads handle.new) 1 }
-        ensures fetched { RisesAtMost (H.fetched handle.old) (H.fetched handle.new) (self.now.blocks_range.end - self.now.blocks_range.start) }
-        ensures block { FetchesBlock (blocks_told S.ValueReader.codec self.now (H.contents handle.old)) (H.fetched handle.old) (H.fetched handle.new) }
+        ensures compressed { IfErr result (TellsPlaceAt (H.state handle.old).contents self.now.blocks_range) }
+        ensures reads { ReadsBlocks S.ValueReader.codec self.now (H.state handle.old) (H.state handle.new) (ReadFailed result) }
     {
         if let SSTableIndex::V2(_) = &self.sstable_index {
             return Ok(None);
         }
-        let blocks = match read_part(alloc, handle, self.sstable_slice.range()) {
-            Ok(blocks) => blocks,
-            Err(e) => return Err(e),
-        };
-        value_in::<S>(alloc, blocks, key)
+        match self.sstable_slice.read_bytes(alloc, handle) {
+            Ok(blocks) => value_in::<S>(alloc, blocks, key),
+            Err(e) => Err(SstError::from(e)),
+        }
     }
 }
 
-// Reads a part of the file. An empty part is not read.
-fn read_part<H: FileHandle>(
+// Reads the end of a table, and answers its footer.
+fn read_footer<H: FileHandle>(
     alloc: Global,
     handle: &mut H,
-    range: Range<usize>,
-) -> Result<OwnedBytes, SstError>
-    requires ordered { range.start ≤ range.end }
-    requires within { range.end ≤ H.size handle.old }
-    ensures bytes { IfOk result (λ part. IsPart (H.contents handle.old) range.start range.end part) }
-    ensures length { IfOk result (λ part. length part ≡ range.end - range.start) }
-    ensures error { IfErr result IsReadError }
-    ensures cause { HasCause (H.faults handle.old) (H.faults handle.new) (result ≡ Err SstError.Read) }
-    ensures contents { H.contents handle.new ≡ H.contents handle.old }
-    ensures size { H.size handle.new ≡ H.size handle.old }
-    ensures reads { RisesAtMost (H.reads handle.old) (H.reads handle.new) 1 }
-    ensures fetched { RisesAtMost (H.fetched handle.old) (H.fetched handle.new) (range.end - range.start) }
+    file: FileSlice,
+) -> Result<Footer, SstError>
+    requires room { VERSION_LEN ≤ span_len file }
+    requires within { file.end ≤ (H.state handle.old).size }
+    ensures told { TellsAt (H.state handle.old).contents file (ReadsFooter result) }
+    ensures known { IfOk result (λ footer. versions.is_known footer.version ≡ true) }
+    ensures fits { IfOk result (λ footer. footer.index_offset + FOOTER_LEN ≤ span_len file) }
+    ensures reads { ReadsFile (H.state handle.old) (H.state handle.new) (ReadFailed result) 1 FOOTER_LEN }
 {
-    if range.start == range.end {
-        return Ok(OwnedBytes::empty(alloc)?);
-    }
-    match handle.read_bytes(alloc, range) {
-        Ok(part) => Ok(part),
-        Err(HandleError::Memory) => Err(SstError::Memory),
-        Err(HandleError::Failed) => Err(SstError::Read),
+    let ending = file.slice_from_end(file.len().min(FOOTER_LEN));
+    match ending.read_bytes(alloc, handle) {
+        Ok(bytes) => footer_of(bytes, file.len()),
+        Err(e) => Err(SstError::from(e)),
     }
 }
 
-// The last number of four bytes.
-fn last_u32(bytes: &[u8]) -> u32
-    requires { 4 ≤ length bytes.now }
-    ensures { result ≡ from_le_bytes w32 (drop (length bytes.now - 4) bytes.now) }
+// Reads the index part before a table's footer, and answers the index.
+fn read_index<H: FileHandle>(
+    alloc: Global,
+    handle: &mut H,
+    file: FileSlice,
+    footer: &Footer,
+) -> Result<SSTableIndex, SstError>
+    requires known { versions.is_known footer.now.version ≡ true }
+    requires fits { footer.now.index_offset + FOOTER_LEN ≤ span_len file }
+    requires within { file.end ≤ (H.state handle.old).size }
+    ensures told { TellsAt (H.state handle.old).contents file (ReadsIndexAt footer.now result) }
+    ensures whole { IfOk result (λ index. IsWhole index footer.now.index_offset) }
+    ensures reads { ReadsFile (H.state handle.old) (H.state handle.new) (ReadFailed result) 1 (part_len footer.now file) }
 {
-    let (_, last) = bytes.split_at(bytes.len() - 4);
-    u32::from_le_bytes([last[0], last[1], last[2], last[3]])
-}
-
-// The last number of eight bytes.
-fn last_u64(bytes: &[u8]) -> u64
-    requires { 8 ≤ length bytes.now }
-    ensures { result ≡ from_le_bytes w64 (drop (length bytes.now - 8) bytes.now) }
-{
-    let (_, last) = bytes.split_at(bytes.len() - 8);
-    u64::from_le_bytes([
-        last[0], last[1], last[2], last[3], last[4], last[5], last[6], last[7],
-    ])
-}
-
-// The numbers of a footer.
-fn read_footer(mut bytes: OwnedBytes) -> Footer
-    requires { length bytes ≡ 20 }
-    ensures offset { result.index_offset ≡ from_le_bytes w64 (take 8 bytes) }
-    ensures count { result.num_terms ≡ from_le_bytes w64 (take 8 (drop 8 bytes)) }
-    ensures version { result.version ≡ from_le_bytes w32 (take 4 (drop 16 bytes)) }
-{
-    Footer {
-        index_offset: bytes.read_u64(),
-        num_terms: bytes.read_u64(),
-        version: bytes.read_u32(),
+    let part = file.slice(footer.index_offset as usize..file.len() - FOOTER_LEN);
+    match part.read_bytes(alloc, handle) {
+        Ok(bytes) => SSTableIndex::load(footer, bytes.as_slice()),
+        Err(e) => Err(SstError::from(e)),
     }
 }
 
 // The footer of a table of so many bytes, by its last bytes.
 fn footer_of(ending: OwnedBytes, len: usize) -> Result<Footer, SstError>
-    requires room { 4 ≤ len }
-    requires ending { length ending ≡ min len 20 }
-    ensures told { (table : List ℕ) → length table ≡ len → drop (len - length ending) table ≡ ending → ReadsFooter table result }
-    ensures known { IfOk result (λ footer. is_known footer.version ≡ true) }
+    requires room { VERSION_LEN ≤ len }
+    requires ending { length ending ≡ min len FOOTER_LEN }
+    ensures told { (table : List ℕ) → length table ≡ len → IsEnding table ending → ReadsFooter result table }
+    ensures known { IfOk result (λ footer. versions.is_known footer.version ≡ true) }
     ensures fits { IfOk result (λ footer. footer.index_offset + FOOTER_LEN ≤ len) }
     ensures error { IfErr result (λ e. e ≢ SstError.Read) }
 {
-    let version = last_u32(ending.as_slice());
-    if version != 2 && version != 3 {
+    let version = version_of(ending.as_slice());
+    if !is_known(version) {
         return Err(SstError::Version(version));
     }
     if len < FOOTER_LEN {
         return Err(SstError::Corrupt);
     }
-    let footer = read_footer(ending);
-    if version == 2 && len >= 28 {
+    let footer = Footer::read(ending);
+    if version == 2 && len >= KEYED_V2_LEN {
         return Err(SstError::NotYet);
     }
     if footer.index_offset > (len - FOOTER_LEN) as u64 {
         return Err(SstError::Corrupt);
     }
     Ok(footer)
-}
-
-// The index in an index part.
-fn index_of(footer: &Footer, part: &[u8]) -> Result<SSTableIndex, SstError>
-    requires { is_known footer.now.version ≡ true }
-    ensures { ReadsIndex footer.now part.now result }
-{
-    if footer.version == 2 {
-        if part.is_empty() {
-            return Ok(SSTableIndex::V2(SSTableIndexV2));
-        }
-        return Err(SstError::Corrupt);
-    }
-    if part.len() < 8 {
-        return Err(SstError::Corrupt);
-    }
-    if last_u64(part) != 0 {
-        return Err(SstError::NotYet);
-    }
-    Ok(SSTableIndex::V3Empty(SSTableIndexV3Empty::load(footer.index_offset as usize)))
 }

@@ -5,22 +5,16 @@
 #![tactic(auto)]
 
 mod dictionary;
-mod errors;
-mod index;
-mod laws;
 mod lookup;
-mod reader;
 mod table;
-mod writer;
 
 pub use common_wire::{KeyTracking, WithoutKeys};
 pub use dictionary::Dictionary;
-pub use errors::{SstError, SstWriteError, Unfinished};
 pub use fst_map;
-pub use index::{SSTableIndex, SSTableIndexV2, SSTableIndexV3Empty};
-pub use laws::{adjoining_ranges_are_taken, short_ranges_fit};
-pub use reader::Reader;
 pub use sstable_blocks;
 pub use sstable_blocks::BlockAddr;
+pub use sstable_index::{SSTableIndex, SSTableIndexV2, SSTableIndexV3Empty, SstError};
+pub use sstable_tables::{
+    Reader, SstWriteError, Unfinished, Writer, adjoining_ranges_are_taken, short_ranges_fit,
+};
 pub use table::{RangeSSTable, SSTable};
-pub use writer::Writer;

@@ -1,8 +1,6 @@
 // Keys that are looked up in a block.
-ghost use Rattle.std.specs.Prelude.{◌≡◌, ◌<◌, ◌^◌, List, length, Some, IfErr};
-ghost use Rattle.owned_bytes.specs.Keys.{Key};
-ghost use Rattle.sstable_blocks.specs.Run.{run_of};
-ghost use Rattle.tantivy_sstable.specs.Reading.{Finds, IsLookupError, TellsPlace};
+ghost use Rattle.std.specs.Prelude.{◌<◌, ◌^◌, length, IfErr};
+ghost use Rattle.tantivy_sstable.specs.Finding.{FindsRun, IsLookupError, TellsPlace};
 
 use crate::{Reader, SSTable, SstError};
 use owned_bytes::OwnedBytes;
@@ -16,7 +14,7 @@ pub(crate) fn value_in<S: SSTable>(
     key: &[u8],
 ) -> Result<Option<S::Value>, SstError>
     requires { length blocks < 2 ^ 64 }
-    ensures found { (entries : List (Key × S.Value.Shown)) → run_of S.ValueReader.codec blocks ≡ Some entries → Finds S.Value.shown entries key.now result }
+    ensures found { FindsRun S.ValueReader.codec S.Value.shown blocks key.now result }
     ensures error { IfErr result IsLookupError }
     ensures compressed { IfErr result (TellsPlace blocks) }
 {

@@ -1,16 +1,12 @@
 // Kinds of tables.
-ghost use Rattle.std.specs.Prelude.{◌≡◌, [], List, Some, None, IfOk};
-ghost use Rattle.owned_bytes.specs.Keys.{Key};
+ghost use Rattle.std.specs.Prelude.{◌≡◌, [], None, Some, IfOk};
+ghost use Rattle.sstable_values.specs.Codec.{no_values};
 ghost use Rattle.sstable_blocks.specs.Run.{run_of};
-ghost use Rattle.sstable_blocks.specs.Entries.{IsFresh, entries_left};
-ghost use Rattle.sstable_blocks.specs.Values.{HasNone};
-ghost use Rattle.sstable_blocks.specs.Writing.{IsOpen};
-ghost use Rattle.sstable_blocks.specs.DeltaReader.{walk};
-ghost use Rattle.sstable_blocks.specs.DeltaWriter.{state, sink_of};
-ghost use Rattle.tantivy_sstable.specs.Making.{HasInserted};
-ghost use Rattle.tantivy_sstable.specs.Reading.{HasLeft};
-ghost use Rattle.tantivy_sstable.specs.Reader.{reads};
-ghost use Rattle.tantivy_sstable.specs.Writer.{writes, table_sink};
+ghost use Rattle.sstable_blocks.specs.BlockReader.{before_bytes};
+ghost use Rattle.sstable_blocks.specs.Slices.{Begins, entries_here};
+ghost use Rattle.sstable_blocks.specs.Writing.{default_block_len, IsOpen};
+ghost use Rattle.sstable_tables.specs.Making as made;
+ghost use Rattle.sstable_tables.specs.Reading.{HasRun, HasLeft};
 
 use crate::{Reader, Writer};
 use owned_bytes::{OwnedBytes, Sink};
@@ -23,10 +19,13 @@ use std::ops::Range;
 
 /// A kind of table: the values that it stores, and how.
 pub trait SSTable: Sized {
+    /// The values that it stores.
     type Value: StoredValue;
 
+    /// How the values of a block are read.
     type ValueReader: ValueReader<Value = Self::Value> + Drop;
 
+    /// How the values of a block are written.
     type ValueWriter: ValueWriter<Value = Self::Value> + Drop;
 
     /// A copy of a value.
@@ -35,28 +34,29 @@ pub trait SSTable: Sized {
 
     /// A writer of blocks that are appended to what the sink has.
     fn delta_writer<W: Sink>(alloc: Global, write: W) -> DeltaWriter<W, Self::ValueWriter>
-        ensures sink { sink_of result ≡ write }
-        ensures counted { (state Self.ValueWriter.written W.written W.faults result).counted ≡ 0 }
-        ensures block_len { (state Self.ValueWriter.written W.written W.faults result).block_len ≡ 4000 }
-        ensures no_delta { (state Self.ValueWriter.written W.written W.faults result).deltas ≡ [] }
-        ensures no_value { HasNone (state Self.ValueWriter.written W.written W.faults result).values }
-        ensures entries { IsOpen (state Self.ValueWriter.written W.written W.faults result) [] }
+        ensures sink { result.sink ≡ write }
+        ensures written { result.written ≡ W.written write }
+        ensures faults { result.faults ≡ W.faults write }
+        ensures counted { result.counted ≡ 0 }
+        ensures block_len { result.block_len ≡ default_block_len }
+        ensures no_delta { result.deltas ≡ [] }
+        ensures no_value { result.values ≡ no_values Self.ValueWriter.codec }
+        ensures entries { IsOpen result [] }
     {
         DeltaWriter::new(alloc, write)
     }
 
     /// A writer of a table that is appended to what the sink has.
     fn writer<W: Sink>(alloc: Global, wrt: W) -> Writer<W, Self::ValueWriter>
-        ensures sink { table_sink result ≡ wrt }
-        ensures entries { HasInserted (writes Self.ValueWriter.written W.written W.faults result) (W.written wrt) [] }
+        ensures { made.Begins result wrt }
     {
         Writer::new(alloc, wrt)
     }
 
     /// A reader of the entries of blocks, which stand at the front of a table.
     fn delta_reader(alloc: Global, reader: OwnedBytes) -> DeltaReader<Self::ValueReader>
-        ensures fresh { IsFresh (walk Self.ValueReader.loaded result) reader 0 }
-        ensures entries { entries_left Self.ValueReader.codec None (walk Self.ValueReader.loaded result) ≡ run_of Self.ValueReader.codec reader }
+        ensures begins { Begins Self.ValueReader.codec result (before_bytes reader 0) }
+        ensures run { entries_here Self.ValueReader.codec None result ≡ run_of Self.ValueReader.codec reader }
     {
         prove!(reader.len() <= usize::MAX);
         DeltaReader::new(alloc, reader, 0)
@@ -64,8 +64,9 @@ pub trait SSTable: Sized {
 
     /// A reader of the entries of blocks with their keys, which stand at the front of a table.
     fn reader(alloc: Global, reader: OwnedBytes) -> Reader<Self::ValueReader>
-        ensures fresh { IsFresh (reads Self.ValueReader.loaded result).walk reader 0 }
-        ensures entries { (entries : List (Key × Self.Value.Shown)) → run_of Self.ValueReader.codec reader ≡ Some entries → HasLeft Self.ValueReader.codec (reads Self.ValueReader.loaded result) entries }
+        ensures begins { Begins Self.ValueReader.codec result.stands (before_bytes reader 0) }
+        ensures key { result.key ≡ [] }
+        ensures entries { HasRun Self.ValueReader.codec reader result }
     {
         prove!(reader.len() <= usize::MAX);
         Reader::new(alloc, reader, 0)
@@ -73,8 +74,9 @@ pub trait SSTable: Sized {
 
     /// A reader without entries.
     fn create_empty_reader(alloc: Global) -> Reader<Self::ValueReader>
-        ensures fresh { IsFresh (reads Self.ValueReader.loaded result).walk [] 0 }
-        ensures entries { HasLeft Self.ValueReader.codec (reads Self.ValueReader.loaded result) [] }
+        ensures begins { Begins Self.ValueReader.codec result.stands (before_bytes [] 0) }
+        ensures key { result.key ≡ [] }
+        ensures entries { HasLeft Self.ValueReader.codec result [] }
     {
         Reader::empty(alloc)
     }

@@ -4,9 +4,9 @@ use Rattle.std.specs.List.{All}
 use Rattle.std.proofs.lemmas.Bool.{eq-eqb, false≢true}
 use Rattle.std.proofs.lemmas.List.Elements.{All-nil, All-cons, All-append, All-weaker}
 use Rattle.tantivy_stacker.specs.Arena.{Arena, Lies, top}
-use Rattle.tantivy_stacker.specs.Lists.{IsHeld, IsApart, IsEmptyList, Holds, ListWrite, list_bytes, list_places}
-use Rattle.tantivy_stacker.specs.Maps.{Table, place, is_taken, IsTaken, entry_size, IsHeldMap, IsEmptyMap, MapWrite, map_places}
-use Rattle.tantivy_stacker.specs.Beside.{AreBeside, EmptyAreBeside, ListWritesBeside, MapWritesBeside}
+use Rattle.tantivy_stacker.specs.Lists.{IsApart, Holds, ListWrite, list_bytes, list_places}
+use Rattle.tantivy_stacker.specs.Maps.{Table, place, is_taken, IsTaken, entry_size, IsHeldMap, MapWrite, map_places}
+use Rattle.tantivy_stacker.specs.Beside.{EmptyAreBeside, ListWritesBeside, MapWritesBeside}
 use Rattle.tantivy_stacker.specs.declared.expull.ExpUnrolledLinkedList.{ExpUnrolledLinkedList}
 use Rattle.tantivy_stacker.proofs.ListFacts.{empty_is_held, others_stay, places_lie, lies_before_top}
 use Rattle.tantivy_stacker.proofs.Maps.{areas, entry_apart, filter-cons_yes, filter-cons_no}
@@ -14,7 +14,7 @@ use Rattle.tantivy_stacker.proofs.Rehashing.{all_areas}
 use Rattle.tantivy_stacker.proofs.MapFacts.{empty_held, other_maps}
 
 -- apart is apart from either side
-swapped : (xs ys : List (ℕ × ℕ)) → All (λ r. IsApart r.0 r.1 ys) xs → All (λ r. IsApart r.0 r.1 xs) ys
+pub swapped : (xs ys : List (ℕ × ℕ)) → All (λ r. IsApart r.0 r.1 ys) xs → All (λ r. IsApart r.0 r.1 xs) ys
 swapped xs ys h = λ k d within j e inside. elim (h j e inside k d within) [ inl less ↦ inr less | inr more ↦ inl more ]
 
 -- the places of a map were handed out
@@ -36,7 +36,7 @@ unfolding map_places
 map_places_lie size a t h = areas_lie size a t.places h.lies
 
 -- what was handed out before, apart from a list's places, is apart from them after a write
-list_apart : (old new : Arena) (l m : ExpUnrolledLinkedList) (p n : ℕ) → ListWrite old new l m → p + n ≤ top old → IsApart p n (list_places old l) → IsApart p n (list_places new m)
+pub list_apart : (old new : Arena) (l m : ExpUnrolledLinkedList) (p n : ℕ) → ListWrite old new l m → p + n ≤ top old → IsApart p n (list_places old l) → IsApart p n (list_places new m)
 list_apart old new l m p n w before apart =
     let (fresh, is, above) = w.places in
     let later : All (λ (r : ℕ × ℕ). (p + n ≤ r.0) ⊎ (r.0 + r.1 ≤ p)) fresh = All-weaker (λ (r : ℕ × ℕ). top old ≤ r.0) (λ (r : ℕ × ℕ). (p + n ≤ r.0) ⊎ (r.0 + r.1 ≤ p)) (λ r high. inl (omega arith)) fresh above in

@@ -4,7 +4,7 @@ use Rattle.std.proofs.Math.Nat.{mod-eq_of_lt}
 use Rattle.std.proofs.lemmas.Bool.{cases_lt, cases_eq}
 use Rattle.tantivy_stacker.specs.Arena.{Arena, Lies}
 use Rattle.tantivy_stacker.specs.Hashing.{hash_of}
-use Rattle.tantivy_stacker.specs.Maps.{Table, place, IsTaken, home, turn, key_length, key_at, IsHeldMap}
+use Rattle.tantivy_stacker.specs.Maps.{place, IsTaken, home, turn, key_length, key_at}
 use Rattle.tantivy_stacker.specs.Probes.{IsSearchable, IsFreeFor}
 use Rattle.tantivy_stacker.proofs.Chains.{Lies-front, Lies-back}
 use Rattle.tantivy_stacker.proofs.Lists.{Lies-small}
@@ -30,18 +30,6 @@ module _ (a : Arena) (e m : ℕ) (h : Lies a e (2 + key_length a e + m)) (some :
 
 pub place_after : (a : Arena) (e n k q : ℕ) → Lies a e n → length a.pages ≤ 4096 → k < n → q ≡ (e + k) % 2 ^ 32 → q ≡ e + k
 place_after a e n k q h few less is = (let small = Lies-small a e n few h in is ∙ mod-eq_of_lt (omega arith))
-
--- a map that is held can be searched
-pub searchable : (size : ℕ) (a : Arena) (t : Table) → 1 ≤ size → IsHeldMap size a t → IsSearchable a t.places
-searchable size a t some h =
-    let room = h.room in
-    let counted = h.counted in
-    record {
-      room = omega arith;
-      lies = λ i taken. Lies-front (2 + key_length a (place t.places i).0 + 1) (omega arith) (h.lies i taken);
-      hashed = h.hashed;
-      filed = h.filed;
-    }
 
 -- ---- a search that met only other keys
 pub record IsSearching (a : Arena) (ps : List (ℕ × ℕ)) (key : List ℕ) (hash step bucket : ℕ) : Type 0 where

@@ -11,9 +11,6 @@ use Rattle.tantivy_stacker.proofs.Maps.{filter-cons_yes, filter-cons_no}
 is_on : (p : ℕ × ℕ) → p.0 ≢ 4294967295 → is_taken p ≡ true
 is_on p taken = ap not (ne_eqb p.0 4294967295 taken)
 
-is_off : (p : ℕ × ℕ) → is_taken p ≡ false → p.0 ≢ 4294967295 → (A : Type 0) → A
-is_off p off taken A = absurd (false≢true (sym off ∙ is_on p taken))
-
 taken_of : (p : ℕ × ℕ) → is_taken p ≡ true → p.0 ≢ 4294967295
 taken_of p on = λ e. false≢true (sym (ap not (eq-eqb p.0 4294967295 e)) ∙ on)
 

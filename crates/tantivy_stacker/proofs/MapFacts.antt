@@ -1,12 +1,13 @@
 -- The laws of maps.
-use Rattle.std.proofs.Common.{◌≡◌, ℕ, zero, suc, ◌+◌, ◌-◌, ◌≤◌, inl, inr, Bool, true, false, not, filter, List, [], ◌∷◌, ◌++◌, length, take, replicate, refl, sym, ap, subst, ◌∙◌, arith, count_by}
+use Rattle.std.proofs.Common.{◌≡◌, ℕ, zero, suc, ◌+◌, ◌-◌, ◌^◌, ◌≤◌, inl, inr, Bool, true, false, not, filter, List, [], ◌∷◌, ◌++◌, length, take, replicate, refl, sym, ap, subst, ◌∙◌, arith, count_by, Result, Ok, Err, IfOk}
 use Rattle.std.specs.List.{All}
-use Rattle.std.proofs.lemmas.Bool.{ne_eqb, eq-eqb, false≢true}
+use Rattle.std.proofs.Math.Nat.{pow-le-pow_right}
+use Rattle.std.proofs.lemmas.Bool.{cases_eq, ne_eqb, eq-eqb, false≢true}
 use Rattle.std.proofs.lemmas.List.{length-replicate}
 use Rattle.tantivy_stacker.specs.Arena.{Arena, Lies, bytes_at}
 use Rattle.tantivy_stacker.specs.Lists.{IsApart, KeepsBut}
 use Rattle.tantivy_stacker.specs.Hashing.{hash_of}
-use Rattle.tantivy_stacker.specs.Maps.{Table, place, is_taken, IsTaken, key_length, key_at, value_place, entry_size, map_places, IsEmptyMap, EmptyMapIsHeld, EmptyMapHasNone, EntriesAreOne, OtherMapsStay}
+use Rattle.tantivy_stacker.specs.Maps.{Table, place, is_taken, IsTaken, key_length, key_at, value_place, entry_size, map_places, IsEmptyMap, IsTableSize, EmptyMapIsHeld, EmptyMapHasNone, EntriesAreOne, OtherMapsStay}
 use Rattle.std.specs.Int.{w16, from_le_bytes}
 use Rattle.tantivy_stacker.proofs.Chains.{Lies-front, IsApart-part}
 use Rattle.tantivy_stacker.proofs.Entries.{key_lies, value_lies}
@@ -29,6 +30,29 @@ new_table n m items free some is list none =
     let all : items ≡ replicate n (4294967295, 0) = list ∙ ap (replicate n) is in
     let len : length items ≡ n = ap length all ∙ length-replicate {A = ℕ × ℕ} n (4294967295, 0) in
     (all ∙ ap (λ k. replicate k (4294967295, 0)) (sym len), none, omega arith)
+
+-- a table for four entries has four places
+four_places : (n : ℕ) → IsTableSize 4 n → n ≡ 4
+unfolding IsTableSize
+four_places n h =
+    let k = h.0 in
+    let is : n ≡ 2 ^ k = h.1 in
+    let more = h.4 in
+    elim (cases_eq k 1) [
+      | inl one ↦ (let two : n ≡ 2 = is ∙ ap (λ j. 2 ^ j) one in absurd (omega arith))
+      | inr other ↦
+          elim (cases_eq k 2) [
+            | inl two ↦ is ∙ ap (λ j. 2 ^ j) two
+            | inr none ↦
+                (let some = h.2 in
+                let big : 2 ^ 3 ≤ 2 ^ k = pow-le-pow_right {n = 2} (omega arith) {i = 3} {j = k} (omega arith) in
+                elim h.3 [ inl less ↦ absurd (omega arith) | inr two ↦ absurd (omega arith) ])
+          ]
+    ]
+
+pub ok_four : {A E : Type 0} (result : Result A E) (places : A → ℕ) → IfOk result (λ m. IsTableSize 4 (places m)) → IfOk result (λ m. places m ≡ 4)
+ok_four (Ok m) places h = four_places (places m) h
+ok_four (Err e) places h = tt
 
 all_free : (t : Table) → IsEmptyMap t → (i : ℕ) → IsTaken t.places i → ⊥
 unfolding IsEmptyMap

@@ -26,14 +26,6 @@ free_everywhere n j taken =
 pub none_taken : (n : ℕ) → count_by is_taken (replicate n (4294967295, 0)) ≡ 0
 none_taken n = sum_by-replicate {X = ℕ × ℕ} (λ q. cond {A = ℕ} (is_taken q) 1 0) n (4294967295, 0) ∙ omega arith
 
-pub rehash_begin : (ps : List (ℕ × ℕ)) (n : ℕ) → Rehashes ps (replicate n (4294967295, 0)) 0
-rehash_begin ps n = record {
-  filed = λ i less taken. absurd (omega arith);
-  source = λ j taken. absurd (free_everywhere n j taken);
-  unique = λ i j ti tj same. absurd (free_everywhere n i ti);
-  counted = none_taken n;
-}
-
 pub rehash_free : (ps qs : List (ℕ × ℕ)) (k : ℕ) → Rehashes ps qs k → k < length ps → (place ps k).0 ≡ 4294967295 → Rehashes ps qs (k + 1)
 rehash_free ps qs k h within free = record {
   filed = λ i less taken. elim (cases_eq i k) [
@@ -144,10 +136,6 @@ rehashed_stays size item a t qs r = record {
       };
 }
 
--- in a map that is held no two places have one address
-pub held_unique : (size : ℕ) (a : Arena) (t : Table) → IsHeldMap size a t → AreUnique t.places
-held_unique size a t h = λ i j ti tj same. h.distinct i j ti tj (ap (key_at a) same)
-
 -- a key that is absent has no entry
 absent_at : {V : Type 0} (size : ℕ) (item : List ℕ → V) (a : Arena) (u : Table) (key : List ℕ) {v : V} → IsAbsent a u.places key → HasEntry size item a u key v → ⊥
 absent_at size item a u key absent g = absent g.at g.taken g.key_is
@@ -190,6 +178,7 @@ unfolding map_places
 write_after size a c t u w r m = record {
   held = m.held;
   others = record {
+    limit = m.others.limit;
     lies = m.others.lies;
     reads = λ q n g apart. m.others.reads q n g (all_areas size a q n u.places (λ j taken.
         (let s = r.source j taken in
@@ -206,7 +195,7 @@ write_after size a c t u w r m = record {
 pub rehashed_write : (size : ℕ) (a : Arena) (t u : Table) → Rehashes t.places u.places (length t.places) → IsHeldMap size a u → MapWrite size a a t u
 rehashed_write size a t u r h = record {
   held = h;
-  others = record { lies = λ q n g. g; reads = λ q n g apart. refl };
+  others = record { limit = refl; lies = λ q n g. g; reads = λ q n g apart. refl };
   places = λ j taken. (let s = r.source j taken in inl (s.0, s.2, ap (λ (p : ℕ × ℕ). p.0) s.3, ap (λ (p : ℕ × ℕ). entry_size size a p.0) s.3));
   end = omega arith;
 }
@@ -214,7 +203,7 @@ rehashed_write size a t u r h = record {
 pub same_write : (size : ℕ) (a : Arena) (t : Table) → IsHeldMap size a t → MapWrite size a a t t
 same_write size a t h = record {
   held = h;
-  others = record { lies = λ q n g. g; reads = λ q n g apart. refl };
+  others = record { limit = refl; lies = λ q n g. g; reads = λ q n g apart. refl };
   places = λ j taken. inl (j, taken, refl, refl);
   end = omega arith;
 }

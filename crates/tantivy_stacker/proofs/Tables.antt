@@ -25,9 +25,6 @@ turn-far n s d h = ap (λ b. cond b (s + d) (s + d - n)) (le-ltb (s + d) n h)
 pub turn-first : (n s : ℕ) → s < n → turn n s 0 ≡ s
 turn-first n s h = turn-near n s 0 (omega arith) ∙ omega arith
 
-pub turn-below : (n s d : ℕ) → s < n → d < n → turn n s d < n
-turn-below n s d hs hd = elim (cases_lt (s + d) n) [ inl near ↦ rw (turn-near n s d near) near | inr far ↦ rw (turn-far n s d far) (omega arith) ]
-
 abbrev pub after : ℕ → ℕ → ℕ
 after n i = cond (eqb (i + 1) n) 0 (i + 1)
 

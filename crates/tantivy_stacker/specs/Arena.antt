@@ -2,14 +2,26 @@
 use Rattle.std.specs.Prelude.{◌≡◌, ℕ, ◌+◌, ◌-◌, ◌*◌, ◌/◌, ◌%◌, ◌<◌, ◌≤◌, ◌⊎◌, List, [], ◌∷◌, ◌++◌, length, take, drop, slice_index_or, slice_set, Bool, replicate, nat_le, if◌then◌else◌}
 use Rattle.std.specs.List.{sum_by}
 
--- the bytes of a page
+-- the bytes of a page, 1 MiB
 abbrev pub page_bytes : ℕ
 page_bytes = 1048576
+
+-- the most pages that an arena may have
+abbrev pub most_pages : ℕ
+most_pages = 4096
+
+-- the address that no space has
+abbrev pub null_address : ℕ
+null_address = 4294967295
 
 -- An arena: how many pages it may have, and the bytes that were handed out on each page.
 pub record Arena : Type 0 where
   pub limit : ℕ
   pub pages : List (List ℕ)
+
+-- a new arena of at most so many pages: it has one, of which nothing was handed out
+abbrev pub new_arena : ℕ → Arena
+new_arena most = record { limit = most; pages = [] ∷ [] }
 
 -- the handed-out bytes of page i
 abbrev pub page : Arena → ℕ → List ℕ
@@ -41,6 +53,10 @@ spent a = sum_by length a.pages
 unfoldable pub IsFull : Arena → ℕ → Type 0
 IsFull a m = (i : ℕ) → i < last_page a → page_bytes ≤ length (page a i) + m
 
+-- However full the closed pages were, but for m bytes each and m at least n, they are as full afterwards.
+abbrev pub StaysFull : ℕ → Arena → Arena → Type 0
+StaysFull n old new = (m : ℕ) → n ≤ m → IsFull old m → IsFull new m
+
 -- the last page has room for n bytes
 abbrev pub has_room : Arena → ℕ → Bool
 has_room a n = nat_le (length (page a (last_page a)) + n) page_bytes
@@ -60,7 +76,7 @@ with_space a n =
 
 -- The last page has no room for n bytes and the pages stand at the limit, or the place would be the null address.
 abbrev pub HasNoSpace : Arena → ℕ → Type 0
-HasNoSpace a n = ((page_bytes < length (page a (last_page a)) + n) × (length a.pages ≡ a.limit)) ⊎ (next_place a n ≡ 4294967295)
+HasNoSpace a n = ((page_bytes < length (page a (last_page a)) + n) × (length a.pages ≡ a.limit)) ⊎ (next_place a n ≡ null_address)
 
 -- a page with these bytes from a place on
 abbrev pub put_on_page : List ℕ → ℕ → List ℕ → List ℕ
@@ -93,12 +109,20 @@ pub record HandsOut (old new : Arena) (p n : ℕ) : Type 0 where
   pub end : top new ≡ p + n
   pub spends : spent new ≡ spent old + n
   pub keeps : Keeps old new 0 0
-  pub full : (m : ℕ) → n ≤ m → IsFull old m → IsFull new m
+  pub full : StaysFull n old new
 
 -- The pages stand at the limit, and the last one has at least all but m of its bytes handed out.
 pub record IsAtLimit (a : Arena) (m : ℕ) : Type 0 where
   pub pages : length a.pages ≡ a.limit
   pub last : page_bytes ≤ length (page a (last_page a)) + m
+
+-- That holds for each m from n on.
+abbrev pub IsAtLimitFrom : ℕ → Arena → Type 0
+IsAtLimitFrom n a = (m : ℕ) → n ≤ m → IsAtLimit a m
+
+-- An arena that stands at its limit, each page but for m bytes handed out, has handed out that much for each page that it may have.
+abbrev pub FullIsSpent : Type 0
+FullIsSpent = (a : Arena) (m : ℕ) → IsFull a m → IsAtLimit a m → a.limit * page_bytes ≤ spent a + a.limit * m
 
 -- A call wrote bs from address p on, and nothing else.
 pub record Writes (old new : Arena) (p : ℕ) (bs : List ℕ) : Type 0 where

@@ -1,8 +1,10 @@
 pub mod Arena
 pub mod Lists
+pub mod Writers
 pub mod Hashing
 pub mod Maps
 pub mod Probes
+pub mod Mutations
 pub mod Tenants
 pub mod PageLending
 pub mod Lending

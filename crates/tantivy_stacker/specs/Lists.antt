@@ -1,13 +1,36 @@
 -- Byte lists in an arena: a chain of blocks, each of twice as many bytes as the one before, up to 32,768.
-use Rattle.std.specs.Prelude.{◌≡◌, ℕ, zero, suc, ◌+◌, ◌-◌, ◌*◌, ◌^◌, ◌<◌, ◌≤◌, ◌==◌, ◌⊎◌, min, List, [], ◌∷◌, ◌++◌, if◌then◌else◌}
-use Rattle.std.specs.Int.{w32, from_le_bytes}
+use Rattle.std.specs.Prelude.{◌≡◌, ℕ, zero, suc, ◌+◌, ◌-◌, ◌*◌, ◌^◌, ◌<◌, ◌≤◌, ◌==◌, ◌⊎◌, min, List, [], ◌∷◌, ◌++◌, length, take, drop, if◌then◌else◌, Result, OnOk, OnErr, IfErr}
+use Rattle.std.specs.Int.{w16, w32, to_le_bytes, from_le_bytes}
 use Rattle.std.specs.List.{All}
 use Rattle.tantivy_stacker.specs.declared.expull.ExpUnrolledLinkedList.{ExpUnrolledLinkedList}
-use Rattle.tantivy_stacker.specs.Arena.{Arena, Lies, bytes_at, top, spent, IsFull, Keeps}
+use Rattle.tantivy_stacker.specs.declared.error.ArenaError.{ArenaError}
+use Rattle.tantivy_stacker.specs.declared.error.ArenaError.TheVariants.{ArenaFull}
+use Rattle.tantivy_stacker.specs.Arena.{Arena, Lies, bytes_at, top, spent, StaysFull, IsAtLimitFrom, Keeps}
 
--- The bytes that a block holds. The first block of a list has the number 3.
+-- the number of the first block of a list, which holds 8 bytes
+abbrev pub first_block : ℕ
+first_block = 3
+
+-- the bytes that a block holds: twice as many as the one before, up to 32,768
 unfoldable pub block_size : ℕ → ℕ
 block_size b = 2 ^ min b 15
+
+-- the bytes of the largest block, with the address behind them: the most that a list asks for at once
+abbrev pub largest_block : ℕ
+largest_block = 32772
+
+-- a list as an item: its 14 bytes, and the list that bytes are read as
+abbrev pub list_item : ExpUnrolledLinkedList → List ℕ
+list_item l = to_le_bytes w16 l.remaining_cap ++ (to_le_bytes w32 l.block_num ++ (to_le_bytes w32 l.head ++ to_le_bytes w32 l.tail))
+
+abbrev pub list_of_item : List ℕ → ExpUnrolledLinkedList
+list_of_item bs =
+    record {
+      remaining_cap = from_le_bytes w16 (take 2 bs);
+      block_num = from_le_bytes w32 (take 4 (drop 2 bs));
+      head = from_le_bytes w32 (take 4 (drop 6 bs));
+      tail = from_le_bytes w32 (take 4 (drop 10 bs));
+    }
 
 -- the address that stands behind the bytes of block b at address p: that of the next block
 unfoldable pub next_block : Arena → ℕ → ℕ → ℕ
@@ -44,17 +67,17 @@ used l = block_size l.block_num - l.remaining_cap
 -- a list of so many blocks: its bytes
 unfoldable pub bytes_of : Arena → ExpUnrolledLinkedList → ℕ → List ℕ
 bytes_of a l zero = []
-bytes_of a l (suc n) = full_blocks a 3 l.head n ++ bytes_at a (last_block a 3 l.head n) (used l)
+bytes_of a l (suc n) = full_blocks a first_block l.head n ++ bytes_at a (last_block a first_block l.head n) (used l)
 
 -- its places
 unfoldable pub places_of : Arena → ExpUnrolledLinkedList → ℕ → List (ℕ × ℕ)
 places_of a l zero = []
-places_of a l (suc n) = block_places a 3 l.head n
+places_of a l (suc n) = block_places a first_block l.head n
 
 -- The arena has its blocks, and its tail is where the bytes in use end. What is not in use may be the whole last block.
 unfoldable pub IsLaidOutBy : Arena → ExpUnrolledLinkedList → ℕ → Type 0
 IsLaidOutBy a l zero = l.remaining_cap ≡ 0
-IsLaidOutBy a l (suc n) = IsChain a 3 l.head n × (l.tail + l.remaining_cap ≡ last_block a 3 l.head n + block_size l.block_num) × (l.remaining_cap ≤ block_size l.block_num)
+IsLaidOutBy a l (suc n) = IsChain a first_block l.head n × (l.tail + l.remaining_cap ≡ last_block a first_block l.head n + block_size l.block_num) × (l.remaining_cap ≤ block_size l.block_num)
 
 -- a list of no block
 unfoldable pub IsEmptyList : ExpUnrolledLinkedList → Type 0
@@ -63,6 +86,10 @@ IsEmptyList l = (l.remaining_cap ≡ 0) × (l.block_num ≡ 2)
 -- the bytes of a list
 unfoldable pub list_bytes : Arena → ExpUnrolledLinkedList → List ℕ
 list_bytes a l = bytes_of a l (block_count l)
+
+-- how many they are
+abbrev pub list_length : Arena → ExpUnrolledLinkedList → ℕ
+list_length a l = length (list_bytes a l)
 
 -- the places of a list: the address and the length of each block with the address behind it
 unfoldable pub list_places : Arena → ExpUnrolledLinkedList → List (ℕ × ℕ)
@@ -81,8 +108,9 @@ pub record IsHeld (a : Arena) (l : ExpUnrolledLinkedList) : Type 0 where
 abbrev pub IsApart : ℕ → ℕ → List (ℕ × ℕ) → Type 0
 IsApart p n places = All (λ r. (p + n ≤ r.0) ⊎ (r.0 + r.1 ≤ p)) places
 
--- What was handed out stays so, and reads as before but for these places.
+-- The page limit stays, what was handed out stays so, and reads as before but for these places.
 pub record KeepsBut (old new : Arena) (places : List (ℕ × ℕ)) : Type 0 where
+  pub limit : new.limit ≡ old.limit
   pub lies : (p n : ℕ) → Lies old p n → Lies new p n
   pub reads : (p n : ℕ) → Lies old p n → IsApart p n places → bytes_at new p n ≡ bytes_at old p n
 
@@ -100,12 +128,12 @@ room_from (suc blocks) b bytes = if bytes == 0 then 0 else block_size b + 4 + ro
 
 -- the bytes of the blocks that a list of so many bytes takes, with an address for each
 unfoldable pub room : ℕ → ℕ
-room bytes = room_from bytes 3 bytes
+room bytes = room_from bytes first_block bytes
 
 -- the bytes of so many blocks of a list, with an address for each
 unfoldable pub blocks_room : ℕ → ℕ
 blocks_room zero = 0
-blocks_room (suc n) = blocks_room n + (block_size (n + 3) + 4)
+blocks_room (suc n) = blocks_room n + (block_size (n + first_block) + 4)
 
 -- The fields of a list after a block at r was added, with `front` as the first one.
 pub record HasNewBlock (l m : ExpUnrolledLinkedList) (front r : ℕ) : Type 0 where
@@ -123,7 +151,7 @@ pub record Extends (old new : Arena) (l m : ExpUnrolledLinkedList) (bs : List �
   pub free : ((free_start l ≤ free_start m) × (free_end m ≤ free_end l)) ⊎ (top old ≤ free_start m)
   pub end : top old ≤ top new
   pub spends : spent new + blocks_room (block_count l) ≡ spent old + blocks_room (block_count m)
-  pub full : (k : ℕ) → 32772 ≤ k → IsFull old k → IsFull new k
+  pub full : StaysFull largest_block old new
 
 -- What a write to a list leaves of the arena, whether it ended well or not.
 pub record ListWrite (old new : Arena) (l m : ExpUnrolledLinkedList) : Type 0 where
@@ -134,7 +162,22 @@ pub record ListWrite (old new : Arena) (l m : ExpUnrolledLinkedList) : Type 0 wh
   -- all other places are as they were
   pub others : KeepsBut old new (list_places old l)
   pub end : top old ≤ top new
-  pub full : (k : ℕ) → 32772 ≤ k → IsFull old k → IsFull new k
+  pub full : StaysFull largest_block old new
+
+-- A call was to append these bytes to a list.
+pub record Appends {A : Type 0} (old new : Arena) (l m : ExpUnrolledLinkedList) (bs : List ℕ) (result : Result A ArenaError) : Type 0 where
+  -- on Ok they stand behind the bytes that the list had
+  pub bytes : OnOk result (list_bytes new m ≡ list_bytes old l ++ bs)
+  -- after an error the list is as it was, with the same bytes
+  pub unchanged : OnErr result (m ≡ l)
+  pub same : OnErr result (list_bytes new m ≡ list_bytes old l)
+  -- the arena holds the list, and all other places are as they were
+  pub write : ListWrite old new l m
+  -- as many bytes were handed out as the list needs more, at most
+  pub space : spent new + room (list_length old l) ≤ spent old + room (list_length old l + length bs)
+  -- an error comes only where the list needs a block more
+  pub needed : OnErr result (room (list_length old l) < room (list_length old l + length bs))
+  pub at_limit : IfErr result (λ e. e ≡ ArenaFull → IsAtLimitFrom largest_block new)
 
 -- An arena holds a list with these bytes, in these places.
 pub record Holds (a : Arena) (l : ExpUnrolledLinkedList) (bytes : List ℕ) (places : List (ℕ × ℕ)) : Type 0 where
@@ -164,5 +207,6 @@ LiesBeforeTop = (a : Arena) (p n : ℕ) → Lies a p n → p + n ≤ top a
 abbrev pub RoomIsBounded : Type 0
 RoomIsBounded = (bytes : ℕ) → room bytes ≤ 3 * bytes + 12
 
+-- More bytes take no less.
 abbrev pub RoomGrows : Type 0
 RoomGrows = (fewer more : ℕ) → fewer ≤ more → room fewer ≤ room more

@@ -1,29 +1,51 @@
 -- Hash maps in an arena: a table of places, each free or taken by an entry, and the entries in the arena.
 use Rattle.std.specs.Prelude.{◌≡◌, ◌≢◌, ℕ, ◌+◌, ◌-◌, ◌*◌, ◌^◌, ◌<◌, ◌≤◌, ◌==◌, ◌⊎◌, Bool, not, nat_lt, List, [], ◌∷◌, length, replicate, take, map, filter, count_by, slice_index_or, slice_set, bit_and, Option, MatchOption, if◌then◌else◌}
 use Rattle.std.specs.Int.{w16, from_le_bytes}
-use Rattle.tantivy_stacker.specs.Arena.{Arena, Lies, bytes_at, top, spent, IsFull, Keeps}
+use Rattle.tantivy_stacker.specs.Arena.{Arena, null_address, Lies, bytes_at, top, spent, IsFull, Keeps}
 use Rattle.tantivy_stacker.specs.Lists.{KeepsBut, IsApart}
 use Rattle.std.specs.List.{All, Contains}
 use Rattle.tantivy_stacker.specs.Hashing.{hash_of}
 
--- the key that a map takes: at most the first 65,535 bytes
+-- the most bytes that a key has
+abbrev pub longest_key : ℕ
+longest_key = 65535
+
+-- how many places the table of a new map has, and the fewest of one that doubled
+abbrev pub first_places : ℕ
+first_places = 4
+
+abbrev pub least_doubled : ℕ
+least_doubled = 8
+
+-- the key that a map takes: at most so many first bytes
 unfoldable pub cut_key : List ℕ → List ℕ
-cut_key key = take 65535 key
+cut_key key = take longest_key key
 
 -- A table: the address of an entry and its hash at each place, or the null address, and how many places are taken.
 pub record Table : Type 0 where
   pub places : List (ℕ × ℕ)
   pub count : ℕ
 
+-- A map with an arena of its own.
+pub record OwnMap : Type 0 where
+  pub arena : Arena
+  pub table : Table
+
+-- the bytes of a table
+abbrev pub table_bytes : Table → ℕ
+table_bytes t = length t.places * 8
+
 -- place i of a table
 abbrev pub place : List (ℕ × ℕ) → ℕ → ℕ × ℕ
-place ps i = slice_index_or ps i (4294967295, 0)
+place ps i = slice_index_or ps i (null_address, 0)
 
+-- whether an entry takes the place
 abbrev pub is_taken : ℕ × ℕ → Bool
-is_taken p = not (p.0 == 4294967295)
+is_taken p = not (p.0 == null_address)
 
+-- An entry takes place i.
 abbrev pub IsTaken : List (ℕ × ℕ) → ℕ → Type 0
-IsTaken ps i = (place ps i).0 ≢ 4294967295
+IsTaken ps i = (place ps i).0 ≢ null_address
 
 -- where the search for a hash begins, among n places
 unfoldable pub home : ℕ → ℕ → ℕ
@@ -58,6 +80,10 @@ value_place a e = e + (2 + key_length a e)
 
 abbrev pub entry_size : ℕ → Arena → ℕ → ℕ
 entry_size size a e = 2 + key_length a e + size
+
+-- the key of the entry of place i
+abbrev pub key_in : Arena → Table → ℕ → List ℕ
+key_in a t i = key_at a (place t.places i).0
 
 -- The arena holds the entries of a table, as a call on the map left them.
 pub record IsHeldMap (size : ℕ) (a : Arena) (t : Table) : Type 0 where
@@ -118,7 +144,7 @@ pub record MapWrite (size : ℕ) (old new : Arena) (t u : Table) : Type 0 where
 pub record IsFiledAnew (old new : List (ℕ × ℕ)) (p : ℕ × ℕ) : Type 0 where
   pub at : ℕ
   pub leads : Leads old p.1 at
-  pub free : (place old at).0 ≡ 4294967295
+  pub free : (place old at).0 ≡ null_address
   pub within : at < length old
   pub is : new ≡ slice_set old at p
 
@@ -133,13 +159,17 @@ pub record Rehashes (ps qs : List (ℕ × ℕ)) (upto : ℕ) : Type 0 where
   pub unique : AreUnique qs
   pub counted : count_by is_taken qs ≡ count_by is_taken (take upto ps)
 
+-- All of them do.
+abbrev pub RehashesAll : List (ℕ × ℕ) → List (ℕ × ℕ) → Type 0
+RehashesAll ps qs = Rehashes ps qs (length ps)
+
 -- A table for so many entries has the greatest power of two of places at most that number, and at least two.
 unfoldable pub IsTableSize : ℕ → ℕ → Type 0
 IsTableSize size n = (k : ℕ) × (n ≡ 2 ^ k) × (1 ≤ k) × ((n ≤ size) ⊎ (n ≡ 2)) × (size < 2 * n)
 
 -- a map of no entry
 unfoldable pub IsEmptyMap : Table → Type 0
-IsEmptyMap t = (t.places ≡ replicate (length t.places) (4294967295, 0)) × (t.count ≡ 0) × (2 ≤ length t.places)
+IsEmptyMap t = (t.places ≡ replicate (length t.places) (null_address, 0)) × (t.count ≡ 0) × (2 ≤ length t.places)
 
 -- Any arena holds the empty map.
 abbrev pub EmptyMapIsHeld : ℕ → Type 0
@@ -163,6 +193,9 @@ OtherMapsStay size item =
 -- the entries of a table, in the order of its places: each key with the address of its value
 unfoldable pub entries_of : Arena → List (ℕ × ℕ) → List (List ℕ × ℕ)
 entries_of a ps = map (λ p. (key_at a p.0, value_place a p.0)) (filter is_taken ps)
+
+abbrev pub entries_in : Arena → Table → List (List ℕ × ℕ)
+entries_in a t = entries_of a t.places
 
 -- A list has each entry of a map once, in some order: its key, with the address of its value.
 pub record AreEntries {V : Type 0} (size : ℕ) (item : List ℕ → V) (a : Arena) (t : Table) (entries : List (List ℕ × ℕ)) : Type 0 where

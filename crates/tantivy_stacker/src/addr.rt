@@ -1,5 +1,6 @@
 // Addresses in an arena.
 ghost use Rattle.std.specs.Prelude.{◌≡◌, ℕ, ◌+◌, ◌%◌, ◌^◌, ◌<◌, ◌==◌};
+ghost use Rattle.tantivy_stacker.specs.Arena.{null_address};
 
 use std::marker::Model;
 
@@ -20,7 +21,7 @@ impl Model for Addr {
 impl Addr {
     /// The address that no space has.
     pub fn null_pointer() -> Addr
-        ensures { result ≡ 4294967295 }
+        ensures { result ≡ null_address }
     {
         Addr(u32::MAX)
     }
@@ -32,19 +33,21 @@ impl Addr {
         Addr(self.0.wrapping_add(offset))
     }
 
+    /// Whether this is the address that no space has.
     pub fn is_null(self) -> bool
-        ensures { result ≡ (self == 4294967295) }
+        ensures { result ≡ (self == null_address) }
     {
         self.0 == u32::MAX
     }
 
-    /// The address of this number.
+    // The address of this number.
     pub(crate) fn from_number(number: u32) -> Addr
         ensures { result ≡ number }
     {
         Addr(number)
     }
 
+    // The number of the page times 2^20, plus the place on the page.
     pub(crate) fn number(self) -> u32
         ensures { result ≡ self }
     {

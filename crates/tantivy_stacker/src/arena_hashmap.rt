@@ -1,11 +1,15 @@
 // Hash maps that own their arena.
-ghost use Rattle.std.specs.Prelude.{Option, ◌≡◌, ℕ, ◌+◌, ◌-◌, ◌*◌, ◌^◌, ◌<◌, ◌≤◌, ◌==◌, List, length, min, IfOk, OnErr, IfErr};
-ghost use Rattle.tantivy_stacker.specs.Arena.{Lies, bytes_at, spent, IsFull, IsAtLimit, page_bytes};
-ghost use Rattle.tantivy_stacker.specs.Maps.{IsHeldMap, HasEntry, Finds, MapPuts, MapStays, MapWrite, IsEmptyMap, IsTableSize, CanBeRead, AreEntries, entries_of, cut_key};
-ghost use Rattle.tantivy_stacker.specs.Probes.{IsAbsent};
+ghost use Rattle.std.specs.Prelude.{Option, ◌≡◌, ℕ, ◌+◌, ◌-◌, ◌*◌, ◌^◌, ◌≤◌, ◌==◌, List, length, min, IfOk};
+ghost use Rattle.tantivy_stacker.specs.Arena.{Lies, bytes_at, spent, IsFull, page_bytes, most_pages, new_arena};
+ghost use Rattle.tantivy_stacker.specs.Maps.{first_places, IsHeldMap, Finds, IsEmptyMap, IsTableSize, CanBeRead, AreEntries, entries_in, cut_key, table_bytes};
+ghost use Rattle.tantivy_stacker.specs.Mutations.{MayUpdate, MutatesOwn};
 
 use crate::{Addr, ArenaError, ArenaItem, Iter, MemoryArena, SharedArenaHashMap};
 use std::alloc::{AllocError, Global};
+use std::marker::Model;
+
+// The places of the table of a new map.
+const FIRST_PLACES: usize = 4;
 
 /// A map from bytes to values, with the arena that its entries stand in.
 #[derive(Drop)]
@@ -14,24 +18,38 @@ pub struct ArenaHashMap<V> {
     memory_arena: MemoryArena,
 }
 
+impl<V> Model for ArenaHashMap<V> {
+    ghost use Rattle.tantivy_stacker.specs.Maps.{OwnMap};
+
+    ghost Value = { OwnMap };
+
+    ghost view = { λ m. record { arena = m.memory_arena; table = m.shared_arena_hashmap } };
+}
+
 impl<V: ArenaItem> ArenaHashMap<V> {
-    /// An empty map of four places.
+    /// An empty map of four places, in an arena of at most 4,096 pages.
     pub fn new(alloc: Global) -> Result<Self, AllocError>
-        ensures empty { IfOk result (λ m. IsEmptyMap m.shared_arena_hashmap) }
-        ensures held { IfOk result (λ m. IsHeldMap V.SIZE m.memory_arena m.shared_arena_hashmap) }
-        ensures unspent { IfOk result (λ m. spent m.memory_arena ≡ 0) }
+        ensures empty { IfOk result (λ m. IsEmptyMap m.table) }
+        ensures places { IfOk result (λ m. length m.table.places ≡ first_places) }
+        ensures held { IfOk result (λ m. IsHeldMap V.SIZE m.arena m.table) }
+        ensures arena { IfOk result (λ m. m.arena ≡ new_arena most_pages) }
+        ensures unspent { IfOk result (λ m. spent m.arena ≡ 0) }
+        ensures full { IfOk result (λ m. (k : ℕ) → IsFull m.arena k) }
     {
-        ArenaHashMap::with_capacity(alloc, 4)
+        ArenaHashMap::with_capacity(alloc, FIRST_PLACES)
     }
 
-    /// An empty map, whose table has the greatest power of two of places at most `table_size`, but at least two.
+    /// An empty map, whose table has the greatest power of two of places at most `table_size`, but at least two. Its arena has at
+    /// most 4,096 pages.
     pub fn with_capacity(alloc: Global, table_size: usize) -> Result<Self, AllocError>
         requires some { 1 ≤ table_size }
         requires bound { table_size ≤ 2 ^ 31 }
-        ensures empty { IfOk result (λ m. IsEmptyMap m.shared_arena_hashmap) }
-        ensures places { IfOk result (λ m. IsTableSize table_size (length m.shared_arena_hashmap.places)) }
-        ensures held { IfOk result (λ m. IsHeldMap V.SIZE m.memory_arena m.shared_arena_hashmap) }
-        ensures unspent { IfOk result (λ m. spent m.memory_arena ≡ 0) }
+        ensures empty { IfOk result (λ m. IsEmptyMap m.table) }
+        ensures places { IfOk result (λ m. IsTableSize table_size (length m.table.places)) }
+        ensures held { IfOk result (λ m. IsHeldMap V.SIZE m.arena m.table) }
+        ensures arena { IfOk result (λ m. m.arena ≡ new_arena most_pages) }
+        ensures unspent { IfOk result (λ m. spent m.arena ≡ 0) }
+        ensures full { IfOk result (λ m. (k : ℕ) → IsFull m.arena k) }
     {
         let shared_arena_hashmap = SharedArenaHashMap::with_capacity(alloc, table_size)?;
         let memory_arena = MemoryArena::new(alloc)?;
@@ -43,16 +61,16 @@ impl<V: ArenaItem> ArenaHashMap<V> {
 
     /// The item whose bytes stand from an address on.
     pub fn read<Item: ArenaItem>(&self, addr: Addr) -> Item
-        requires { Lies self.now.memory_arena addr Item.SIZE }
-        ensures { result ≡ Item.item (bytes_at self.now.memory_arena addr Item.SIZE) }
+        requires { Lies self.now.arena addr Item.SIZE }
+        ensures { result ≡ Item.item (bytes_at self.now.arena addr Item.SIZE) }
     {
         self.memory_arena.read(addr)
     }
 
     /// The value at a key.
     pub fn get(&self, key: &[u8]) -> Option<V>
-        requires { IsHeldMap V.SIZE self.now.memory_arena self.now.shared_arena_hashmap }
-        ensures { Finds V.SIZE V.item self.now.memory_arena self.now.shared_arena_hashmap key.now result }
+        requires { IsHeldMap V.SIZE self.now.arena self.now.table }
+        ensures { Finds V.SIZE V.item self.now.arena self.now.table key.now result }
     {
         self.shared_arena_hashmap.get(key, &self.memory_arena)
     }
@@ -63,18 +81,9 @@ impl<V: ArenaItem> ArenaHashMap<V> {
         key: &[u8],
         updater: F,
     ) -> Result<V, ArenaError>
-        requires held { IsHeldMap V.SIZE self.old.memory_arena self.old.shared_arena_hashmap }
-        requires callable { (before : Option V) → Finds V.SIZE V.item self.old.memory_arena self.old.shared_arena_hashmap (cut_key key.now) before → F.pre updater before }
-        ensures write { MapWrite V.SIZE self.old.memory_arena self.new.memory_arena self.old.shared_arena_hashmap self.new.shared_arena_hashmap }
-        ensures puts { IfOk result (λ v. MapPuts V.SIZE V.item self.old.memory_arena self.new.memory_arena self.old.shared_arena_hashmap self.new.shared_arena_hashmap (cut_key key.now) v) }
-        ensures called { IfOk result (λ v. (before : Option V) × Finds V.SIZE V.item self.old.memory_arena self.old.shared_arena_hashmap (cut_key key.now) before × F.post updater before v) }
-        ensures same { OnErr result (MapStays V.SIZE V.item self.old.memory_arena self.new.memory_arena self.old.shared_arena_hashmap self.new.shared_arena_hashmap) }
-        ensures arena { OnErr result (self.new.memory_arena ≡ self.old.memory_arena) }
-        ensures space { spent self.new.memory_arena ≤ spent self.old.memory_arena + (2 + length (cut_key key.now) + V.SIZE) }
-        ensures there { (IsAbsent self.old.memory_arena self.old.shared_arena_hashmap.places (cut_key key.now) → ⊥) → spent self.new.memory_arena ≡ spent self.old.memory_arena }
-        ensures full { (m : ℕ) → 2 + length (cut_key key.now) + V.SIZE ≤ m → IsFull self.old.memory_arena m → IsFull self.new.memory_arena m }
-        ensures absent { IfErr result (λ e. e ≡ ArenaError.ArenaFull → IsAbsent self.old.memory_arena self.old.shared_arena_hashmap.places (cut_key key.now)) }
-        ensures at_limit { IfErr result (λ e. e ≡ ArenaError.ArenaFull → (m : ℕ) → 2 + length (cut_key key.now) + V.SIZE ≤ m → IsAtLimit self.old.memory_arena m) }
+        requires held { IsHeldMap V.SIZE self.old.arena self.old.table }
+        requires callable { MayUpdate V.SIZE V.item self.old.arena self.old.table (cut_key key.now) (F.pre updater) }
+        ensures { MutatesOwn V.SIZE V.item self.old self.new (cut_key key.now) (F.post updater) result }
     {
         self.shared_arena_hashmap
             .mutate_or_create(key, &mut self.memory_arena, updater)
@@ -82,32 +91,34 @@ impl<V: ArenaItem> ArenaHashMap<V> {
 
     /// Each key once, with the address of its value, in no stated order.
     pub fn iter(&self) -> Iter<'_>
-        requires { IsHeldMap V.SIZE self.now.memory_arena self.now.shared_arena_hashmap }
-        ensures places { result.places.now ≡ self.now.shared_arena_hashmap.places }
-        ensures arena { result.memory_arena.now ≡ self.now.memory_arena }
+        requires { IsHeldMap V.SIZE self.now.arena self.now.table }
+        ensures places { result.places.now ≡ self.now.table.places }
+        ensures arena { result.memory_arena.now ≡ self.now.arena }
         ensures readable { CanBeRead result.memory_arena.now result.places.now }
-        ensures entries { AreEntries V.SIZE V.item self.now.memory_arena self.now.shared_arena_hashmap (entries_of result.memory_arena.now result.places.now) }
+        ensures entries { AreEntries V.SIZE V.item self.now.arena self.now.table (entries_in self.now.arena self.now.table) }
     {
         self.shared_arena_hashmap.iter(&self.memory_arena)
     }
 
     /// The bytes of the table and of all pages, or the greatest `usize` where they are more.
     pub fn mem_usage(&self) -> usize
-        ensures { result ≡ min (min (length self.now.shared_arena_hashmap.places * 8) (2 ^ 64 - 1) + length self.now.memory_arena.pages * page_bytes) (2 ^ 64 - 1) }
+        ensures { result ≡ min (table_bytes self.now.table + length self.now.arena.pages * page_bytes) (2 ^ 64 - 1) }
     {
         self.shared_arena_hashmap
             .mem_usage()
             .saturating_add(self.memory_arena.mem_usage())
     }
 
+    /// How many keys the map has.
     pub fn len(&self) -> usize
-        ensures { result ≡ self.now.shared_arena_hashmap.count }
+        ensures { result ≡ self.now.table.count }
     {
         self.shared_arena_hashmap.len()
     }
 
+    /// Whether the map has no key.
     pub fn is_empty(&self) -> bool
-        ensures { result ≡ (self.now.shared_arena_hashmap.count == 0) }
+        ensures { result ≡ (self.now.table.count == 0) }
     {
         self.shared_arena_hashmap.is_empty()
     }

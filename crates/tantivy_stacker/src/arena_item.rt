@@ -17,11 +17,13 @@ pub trait ArenaItem: Copy {
     /// How many bytes an item has.
     const SIZE: usize;
 
+    /// Writes the item's bytes.
     fn to_bytes(&self, dest: &mut [u8])
         requires { length dest.old ≡ SIZE }
         ensures stored { dest.new ≡ bytes self.now }
         ensures again { item (bytes self.now) ≡ self.now };
 
+    /// Reads the item from its bytes.
     fn from_bytes(src: &[u8]) -> Self
         requires { length src.now ≡ SIZE }
         ensures { result ≡ item src.now };

@@ -5,6 +5,7 @@ use thiserror::Error;
 /// Why an arena handed out no space.
 #[derive(Clone, Copy, Debug, Drop, PartialEq, Eq, Error)]
 pub enum ArenaError {
+    /// The allocator gave no memory.
     #[error("out of memory")]
     Memory,
     /// The pages stand at their limit, and the last one has too little room.

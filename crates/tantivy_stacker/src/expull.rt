@@ -1,14 +1,14 @@
 // Byte lists in an arena.
 ghost use Rattle.std.specs.Prelude.{◌≡◌, ◌≢◌, ℕ, ◌+◌, ◌-◌, ◌^◌, ◌<◌, ◌≤◌, min, List, [], ◌++◌, length, take, drop, IfOk, OnOk, OnErr, IfErr};
 ghost use Rattle.common_wire.specs.Wire.{vint_bytes};
-ghost use Rattle.tantivy_stacker.specs.Arena.{Lies, bytes_at, spent, IsAtLimit};
-ghost use Rattle.tantivy_stacker.specs.Lists.{block_size as size_of_block, IsLaidOut, IsHeld, list_bytes, list_places, HasNewBlock, Extends, ListWrite, room, IsEmptyList};
+ghost use Rattle.tantivy_stacker.specs.Arena.{IsAtLimitFrom};
+ghost use Rattle.tantivy_stacker.specs.Lists.{block_size as size_of_block, largest_block, IsLaidOut, IsHeld, list_bytes, HasNewBlock, Extends, Appends, IsEmptyList};
 
 use crate::{Addr, ArenaError, ArenaItem, MemoryArena};
 use common_wire::serialize_vint_u32;
 use std::alloc::AllocError;
 
-/// The number of the block before the first, so that block number n has 2^n bytes, up to 2^15.
+// The number of the block before the first, so that block number n has 2^n bytes, up to 2^15.
 const FIRST_BLOCK_NUM: u32 = 2;
 
 /// A list of bytes in an arena: a chain of blocks, each of twice as many bytes as the one before it, up to 32,768.
@@ -35,6 +35,7 @@ impl Default for ExpUnrolledLinkedList {
     }
 }
 
+// The bytes that a block holds.
 #[inline]
 #[tactic(auto, unfolding(crate::specs::Lists::block_size))]
 fn block_size(block_num: u32) -> usize
@@ -45,7 +46,7 @@ fn block_size(block_num: u32) -> usize
     1usize << block_num.min(15)
 }
 
-/// The size of the block after this one.
+// The size of the block after this one.
 #[inline]
 #[tactic(auto, unfolding(crate::specs::Lists::block_size))]
 fn next_block_size(block_num: u32) -> usize
@@ -57,7 +58,7 @@ fn next_block_size(block_num: u32) -> usize
 }
 
 impl ExpUnrolledLinkedList {
-    /// Adds the next block.
+    // Adds the next block.
     fn add_block(&mut self, arena: &mut MemoryArena) -> Result<(), ArenaError>
         requires laid_out { IsLaidOut arena.old self.old }
         requires no_rest { self.old.remaining_cap ≡ 0 }
@@ -65,7 +66,7 @@ impl ExpUnrolledLinkedList {
         ensures rest { OnOk result (1 ≤ self.new.remaining_cap) }
         ensures unchanged { OnErr result (self.new ≡ self.old) }
         ensures arena { OnErr result (arena.new ≡ arena.old) }
-        ensures at_limit { IfErr result (λ e. e ≡ ArenaError.ArenaFull → (m : ℕ) → 32772 ≤ m → IsAtLimit arena.old m) }
+        ensures at_limit { IfErr result (λ e. e ≡ ArenaError.ArenaFull → IsAtLimitFrom largest_block arena.old) }
     {
         let size = next_block_size(self.block_num);
         let addr = match arena.allocate_space(size + 4) {
@@ -81,7 +82,7 @@ impl ExpUnrolledLinkedList {
         Ok(())
     }
 
-    /// Goes on in a new block of `size` bytes at `addr`.
+    // Goes on in a new block of `size` bytes at `addr`.
     fn begin_block(&mut self, head: Addr, addr: Addr, size: usize)
         requires number { self.old.block_num + 1 < 2 ^ 32 }
         requires size { size ≡ size_of_block (self.old.block_num + 1) }
@@ -96,7 +97,7 @@ impl ExpUnrolledLinkedList {
         self.tail = addr;
     }
 
-    /// Adds a block where the last one is full.
+    // Adds a block where the last one is full.
     #[inline]
     fn ensure_capacity(&mut self, arena: &mut MemoryArena) -> Result<(), ArenaError>
         requires laid_out { IsLaidOut arena.old self.old }
@@ -105,7 +106,7 @@ impl ExpUnrolledLinkedList {
         ensures unchanged { OnErr result (self.new ≡ self.old) }
         ensures arena { OnErr result (arena.new ≡ arena.old) }
         ensures no_rest { OnErr result (self.old.remaining_cap ≡ 0) }
-        ensures at_limit { IfErr result (λ e. e ≡ ArenaError.ArenaFull → (m : ℕ) → 32772 ≤ m → IsAtLimit arena.old m) }
+        ensures at_limit { IfErr result (λ e. e ≡ ArenaError.ArenaFull → IsAtLimitFrom largest_block arena.old) }
     {
         if self.remaining_cap == 0 {
             return self.add_block(arena);
@@ -113,7 +114,7 @@ impl ExpUnrolledLinkedList {
         Ok(())
     }
 
-    /// Writes bytes into the free part of the last block, as many as it takes.
+    // Writes bytes into the free part of the last block, as many as it takes.
     #[inline]
     fn fill(&mut self, arena: &mut MemoryArena, buf: &[u8]) -> usize
         requires laid_out { IsLaidOut arena.old self.old }
@@ -131,7 +132,7 @@ impl ExpUnrolledLinkedList {
         taken
     }
 
-    /// Writes the first bytes of `buf`, at least one, and answers how many.
+    // Writes the first bytes of `buf`, at least one, and answers how many.
     #[inline]
     fn extend_once(&mut self, arena: &mut MemoryArena, buf: &[u8]) -> Result<usize, ArenaError>
         requires laid_out { IsLaidOut arena.old self.old }
@@ -143,7 +144,7 @@ impl ExpUnrolledLinkedList {
         ensures unchanged { OnErr result (self.new ≡ self.old) }
         ensures arena { OnErr result (arena.new ≡ arena.old) }
         ensures no_rest { OnErr result (self.old.remaining_cap ≡ 0) }
-        ensures at_limit { IfErr result (λ e. e ≡ ArenaError.ArenaFull → (m : ℕ) → 32772 ≤ m → IsAtLimit arena.old m) }
+        ensures at_limit { IfErr result (λ e. e ≡ ArenaError.ArenaFull → IsAtLimitFrom largest_block arena.old) }
     {
         match self.ensure_capacity(arena) {
             Ok(()) => Ok(self.fill(arena, buf)),
@@ -164,13 +165,7 @@ impl ExpUnrolledLinkedList {
     /// Appends bytes. After an error the list is as it was; the arena may have handed out space that nothing uses.
     pub fn append(&mut self, arena: &mut MemoryArena, buf: &[u8]) -> Result<(), ArenaError>
         requires { IsHeld arena.old self.old }
-        ensures bytes { OnOk result (list_bytes arena.new self.new ≡ list_bytes arena.old self.old ++ buf.now) }
-        ensures unchanged { OnErr result (self.new ≡ self.old) }
-        ensures same { OnErr result (list_bytes arena.new self.new ≡ list_bytes arena.old self.old) }
-        ensures write { ListWrite arena.old arena.new self.old self.new }
-        ensures space { spent arena.new + room (length (list_bytes arena.old self.old)) ≤ spent arena.old + room (length (list_bytes arena.old self.old) + length buf.now) }
-        ensures needed { OnErr result (room (length (list_bytes arena.old self.old)) < room (length (list_bytes arena.old self.old) + length buf.now)) }
-        ensures at_limit { IfErr result (λ e. e ≡ ArenaError.ArenaFull → (m : ℕ) → 32772 ≤ m → IsAtLimit arena.new m) }
+        ensures { Appends arena.old arena.new self.old self.new buf.now result }
     {
         let before = *self;
         let mut rest = buf;
@@ -207,24 +202,21 @@ impl ExpUnrolledLinkedList {
 }
 
 /// Writes to a list of an arena.
+#[derive(Drop)]
 pub struct ExpUnrolledLinkedListWriter<'a> {
     eull: &'a mut ExpUnrolledLinkedList,
     arena: &'a mut MemoryArena,
 }
 
 impl ExpUnrolledLinkedListWriter<'_> {
+    ghost use Rattle.tantivy_stacker.specs.Writers.{WriterAppends};
+
     /// Appends bytes, as `append` of the list does.
     pub fn extend_from_slice(&mut self, buf: &[u8]) -> Result<(), ArenaError>
         requires { IsHeld self.old.arena.now self.old.eull.now }
         ensures list { self.new.eull.ghost_name ≡ self.old.eull.ghost_name }
         ensures arena { self.new.arena.ghost_name ≡ self.old.arena.ghost_name }
-        ensures bytes { OnOk result (list_bytes self.new.arena.now self.new.eull.now ≡ list_bytes self.old.arena.now self.old.eull.now ++ buf.now) }
-        ensures unchanged { OnErr result (self.new.eull.now ≡ self.old.eull.now) }
-        ensures same { OnErr result (list_bytes self.new.arena.now self.new.eull.now ≡ list_bytes self.old.arena.now self.old.eull.now) }
-        ensures write { ListWrite self.old.arena.now self.new.arena.now self.old.eull.now self.new.eull.now }
-        ensures space { spent self.new.arena.now + room (length (list_bytes self.old.arena.now self.old.eull.now)) ≤ spent self.old.arena.now + room (length (list_bytes self.old.arena.now self.old.eull.now) + length buf.now) }
-        ensures needed { OnErr result (room (length (list_bytes self.old.arena.now self.old.eull.now)) < room (length (list_bytes self.old.arena.now self.old.eull.now) + length buf.now)) }
-        ensures at_limit { IfErr result (λ e. e ≡ ArenaError.ArenaFull → (m : ℕ) → 32772 ≤ m → IsAtLimit self.new.arena.now m) }
+        ensures appends { WriterAppends self.old self.new buf.now result }
     {
         self.eull.append(self.arena, buf)
     }
@@ -234,13 +226,7 @@ impl ExpUnrolledLinkedListWriter<'_> {
         requires { IsHeld self.old.arena.now self.old.eull.now }
         ensures list { self.new.eull.ghost_name ≡ self.old.eull.ghost_name }
         ensures arena { self.new.arena.ghost_name ≡ self.old.arena.ghost_name }
-        ensures bytes { OnOk result (list_bytes self.new.arena.now self.new.eull.now ≡ list_bytes self.old.arena.now self.old.eull.now ++ vint_bytes val) }
-        ensures unchanged { OnErr result (self.new.eull.now ≡ self.old.eull.now) }
-        ensures same { OnErr result (list_bytes self.new.arena.now self.new.eull.now ≡ list_bytes self.old.arena.now self.old.eull.now) }
-        ensures write { ListWrite self.old.arena.now self.new.arena.now self.old.eull.now self.new.eull.now }
-        ensures space { spent self.new.arena.now + room (length (list_bytes self.old.arena.now self.old.eull.now)) ≤ spent self.old.arena.now + room (length (list_bytes self.old.arena.now self.old.eull.now) + length (vint_bytes val)) }
-        ensures needed { OnErr result (room (length (list_bytes self.old.arena.now self.old.eull.now)) < room (length (list_bytes self.old.arena.now self.old.eull.now) + length (vint_bytes val))) }
-        ensures at_limit { IfErr result (λ e. e ≡ ArenaError.ArenaFull → (m : ℕ) → 32772 ≤ m → IsAtLimit self.new.arena.now m) }
+        ensures appends { WriterAppends self.old self.new (vint_bytes val) result }
     {
         let mut buf = [0u8; 8];
         let bytes = serialize_vint_u32(val, &mut buf);
@@ -249,14 +235,13 @@ impl ExpUnrolledLinkedListWriter<'_> {
 }
 
 impl ArenaItem for ExpUnrolledLinkedList {
-    ghost use Rattle.std.specs.Prelude.{◌++◌, take, drop};
-    ghost use Rattle.std.specs.Int.{w16, w32, to_le_bytes, from_le_bytes};
+    ghost use Rattle.tantivy_stacker.specs.Lists.{list_item, list_of_item};
 
     ghost SIZE = { 14 };
 
-    ghost bytes = { λ l. to_le_bytes w16 l.remaining_cap ++ (to_le_bytes w32 l.block_num ++ (to_le_bytes w32 l.head ++ to_le_bytes w32 l.tail)) };
+    ghost bytes = { λ l. list_item l };
 
-    ghost item = { λ bs. record { remaining_cap = from_le_bytes w16 (take 2 bs); block_num = from_le_bytes w32 (take 4 (drop 2 bs)); head = from_le_bytes w32 (take 4 (drop 6 bs)); tail = from_le_bytes w32 (take 4 (drop 10 bs)) } };
+    ghost item = { λ bs. list_of_item bs };
 
     const SIZE: usize = 14;
 

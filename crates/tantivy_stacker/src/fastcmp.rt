@@ -41,6 +41,7 @@ pub fn fast_nbyte_slice_compare<const SIZE: usize>(left: &[u8], right: &[u8]) ->
     is_same(&left[last..], &right[last..])
 }
 
+// Whether two slices are equal.
 #[inline(always)]
 fn is_same(left: &[u8], right: &[u8]) -> bool
     ensures { IsTrue result ↔ left.now ≡ right.now }
@@ -48,7 +49,7 @@ fn is_same(left: &[u8], right: &[u8]) -> bool
     left == right
 }
 
-/// Compares the first `SIZE` bytes and the last, of slices of at most twice as many.
+// Compares the first `SIZE` bytes and the last, of slices of at most twice as many.
 #[inline(always)]
 fn double_check_trick<const SIZE: usize>(left: &[u8], right: &[u8]) -> bool
     requires same_len { length left.now ≡ length right.now }

@@ -23,7 +23,7 @@ pub fn fast_short_slice_copy(src: &[u8], dst: &mut [u8])
     double_copy_trick::<16>(src, dst);
 }
 
-/// Copies the first `SIZE` bytes and the last, of a slice of at most twice as many.
+// Copies the first `SIZE` bytes and the last, of a slice of at most twice as many.
 #[inline(always)]
 fn double_copy_trick<const SIZE: usize>(src: &[u8], dst: &mut [u8])
     requires same_len { length dst.old ≡ length src.now }

@@ -3,10 +3,10 @@ ghost use Rattle.std.specs.Prelude.{◌≡◌, ◌<◌, ◌≤◌, ◌^◌, leng
 ghost use Rattle.std.specs.Int.{w32, w64, from_le_bytes};
 ghost use Rattle.tantivy_stacker.specs.Hashing.{mixed, short_word, tail_word, hash_of};
 
-/// An odd number whose bits are well spread: 2^64 divided by the golden ratio.
+// An odd number whose bits are well spread: 2^64 divided by the golden ratio.
 const SPREAD: u64 = 11400714819323198485;
 
-/// Mixes a word into what was gathered so far: a product spreads its bits upwards, and the upper half is laid over the lower.
+// Mixes a word into what was gathered so far: a product spreads its bits upwards, and the upper half is laid over the lower.
 #[inline(always)]
 #[tactic(auto, unfolding(crate::specs::Hashing::mixed))]
 fn mix(gathered: u64, word: u64) -> u64
@@ -16,7 +16,7 @@ fn mix(gathered: u64, word: u64) -> u64
     product ^ (product >> 32)
 }
 
-/// The first four bytes as a word.
+// The first four bytes as a word.
 #[inline(always)]
 fn half_word(bytes: &[u8]) -> u64
     requires { 4 ≤ length bytes.now }
@@ -29,7 +29,7 @@ fn half_word(bytes: &[u8]) -> u64
     }
 }
 
-/// Fewer than four bytes as a word.
+// Fewer than four bytes as a word.
 #[inline(always)]
 #[tactic(auto, unfolding(crate::specs::Hashing::short_word))]
 fn short_tail(bytes: &[u8]) -> u64
@@ -44,7 +44,7 @@ fn short_tail(bytes: &[u8]) -> u64
     first + middle * 256 + last * 65536
 }
 
-/// Fewer than eight bytes as a word.
+// Fewer than eight bytes as a word.
 #[inline(always)]
 #[tactic(auto, unfolding(crate::specs::Hashing::tail_word))]
 fn tail(bytes: &[u8]) -> u64
@@ -58,6 +58,7 @@ fn tail(bytes: &[u8]) -> u64
     half_word(bytes) + last * (1 << 32)
 }
 
+// The first eight bytes as a word.
 #[inline]
 fn first_word(bytes: &[u8]) -> u64
     requires { 8 ≤ length bytes.now }
@@ -69,7 +70,7 @@ fn first_word(bytes: &[u8]) -> u64
     }
 }
 
-/// A fixed hash: it has no seed.
+// A fixed hash: it has no seed.
 #[inline]
 #[tactic(auto, unfolding(crate::specs::Hashing::hash_of, crate::specs::Hashing::hash_words))]
 pub(crate) fn get_hash(key: &[u8]) -> u32

@@ -1,5 +1,6 @@
-// Laws of arenas and lists, for the proofs of callers.
+// Laws of arenas, lists and maps, for the proofs of callers.
 ghost use Rattle.tantivy_stacker.specs.Maps.{EmptyMapIsHeld, EmptyMapHasNone, EntriesAreOne, OtherMapsStay};
+ghost use Rattle.tantivy_stacker.specs.Arena.{FullIsSpent};
 ghost use Rattle.tantivy_stacker.specs.Tenants.{NoneAreTenants, EmptyJoins, WritesStayApart};
 ghost use Rattle.tantivy_stacker.specs.Lists.{EmptyIsHeld, OthersStay, PlacesLie, LiesBeforeTop, RoomIsBounded, RoomGrows};
 ghost use Rattle.tantivy_stacker.specs.Beside.{EmptyAreBeside, ListWritesBeside, MapWritesBeside};
@@ -25,6 +26,11 @@ pub fn tenant_laws()
 pub fn room_laws()
     ensures bound { RoomIsBounded }
     ensures grows { RoomGrows }
+{}
+
+/// What holds of an arena that stands at its limit. It does nothing.
+pub fn space_laws()
+    ensures { FullIsSpent }
 {}
 
 /// What holds of maps of this type of values. It does nothing.

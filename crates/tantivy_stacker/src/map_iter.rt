@@ -14,7 +14,7 @@ pub struct Iter<'a> {
     memory_arena: &'a MemoryArena,
 }
 
-/// The first place that is taken, or the number of places where none is.
+// The first place that is taken, or the number of places where none is.
 fn first_taken(places: &[KeyValue]) -> usize
     ensures bound { result ≤ length places.now }
     ensures taken { result < length places.now → IsTaken places.now result }
@@ -29,6 +29,7 @@ fn first_taken(places: &[KeyValue]) -> usize
 }
 
 impl<'a> Iter<'a> {
+    // Goes over the entries of these places.
     pub(crate) fn over(places: &'a [KeyValue], memory_arena: &'a MemoryArena) -> Iter<'a>
         ensures places { result.places.now ≡ places.now }
         ensures arena { result.memory_arena.now ≡ memory_arena.now }

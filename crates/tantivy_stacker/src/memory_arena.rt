@@ -1,12 +1,15 @@
 // The arena: pages of memory whose places are handed out one after the other.
 ghost use Rattle.std.specs.Prelude.{◌≡◌, ℕ, ◌+◌, ◌-◌, ◌*◌, ◌/◌, ◌%◌, ◌<◌, ◌≤◌, ◌==◌, ◌↔◌, List, [], ◌∷◌, ◌++◌, length, drop, IfOk, OnOk, OnErr, IfErr, IsTrue};
 ghost use Rattle.std.specs.Borrow.{sem};
-ghost use Rattle.tantivy_stacker.specs.Arena.{page_bytes, page, last_page, Lies, bytes_at, top, spent, IsFull, next_place, with_space, with_slice, HasNoSpace, put, Keeps, HandsOut, Writes, IsAtLimit};
+ghost use Rattle.tantivy_stacker.specs.Arena.{page_bytes, most_pages, new_arena, page, last_page, Lies, bytes_at, top, spent, IsFull, next_place, with_space, with_slice, HasNoSpace, HandsOut, Writes, IsAtLimitFrom};
 
 use crate::page::{PAGE_SIZE, Page};
 use crate::{Addr, ArenaError, ArenaItem, fast_short_slice_copy, load};
 use std::alloc::{AllocError, Global};
 use std::marker::Model;
+
+// The most pages that an arena may have.
+const MOST_PAGES: u32 = 4096;
 
 /// Pages of 1 MiB, whose bytes are handed out from front to back.
 #[derive(Drop)]
@@ -18,13 +21,13 @@ pub struct MemoryArena {
 
 impl Model for MemoryArena {
     ghost use Rattle.std.specs.Prelude.{◌≤◌, length};
-    ghost use Rattle.tantivy_stacker.specs.Arena.{Arena};
+    ghost use Rattle.tantivy_stacker.specs.Arena.{Arena, most_pages};
 
     ghost Value = { Arena };
 
     ghost view = { λ a. record { limit = a.limit; pages = a.pages.items } };
 
-    ghost invariant = { λ a. (1 ≤ length a.pages.items) × (length a.pages.items ≤ a.limit) × (a.limit ≤ 4096) };
+    ghost invariant = { λ a. (1 ≤ length a.pages.items) × (length a.pages.items ≤ a.limit) × (a.limit ≤ most_pages) };
 }
 
 impl MemoryArena {
@@ -32,19 +35,19 @@ impl MemoryArena {
 
     /// An arena of at most 4,096 pages, which has one.
     pub fn new(alloc: Global) -> Result<MemoryArena, AllocError>
-        ensures empty { IfOk result (λ a. a ≡ record { limit = 4096; pages = [] ∷ [] }) }
+        ensures empty { IfOk result (λ a. a ≡ new_arena most_pages) }
         ensures unspent { IfOk result (λ a. spent a ≡ 0) }
         ensures full { IfOk result (λ a. (m : ℕ) → IsFull a m) }
     {
-        MemoryArena::with_page_limit(alloc, 4096)
+        MemoryArena::with_page_limit(alloc, MOST_PAGES)
     }
 
     /// An arena of at most so many pages, which has one.
     #[tactic(auto, unfolding(crate::specs::Arena::spent, crate::specs::Arena::IsFull))]
     pub fn with_page_limit(alloc: Global, pages: u32) -> Result<MemoryArena, AllocError>
         requires some { 1 ≤ pages }
-        requires bound { pages ≤ 4096 }
-        ensures empty { IfOk result (λ a. a ≡ record { limit = pages; pages = [] ∷ [] }) }
+        requires bound { pages ≤ most_pages }
+        ensures empty { IfOk result (λ a. a ≡ new_arena pages) }
         ensures unspent { IfOk result (λ a. spent a ≡ 0) }
         ensures full { IfOk result (λ a. (m : ℕ) → IsFull a m) }
     {
@@ -66,29 +69,30 @@ impl MemoryArena {
         ensures place { IfOk result (λ addr. addr ≡ next_place self.old len) }
         ensures space { OnOk result (self.new ≡ with_space self.old len) }
         ensures laws { IfOk result (λ addr. HandsOut self.old self.new addr len) }
-        ensures pages { length self.old.pages ≤ 4096 }
-        ensures pages_after { length self.new.pages ≤ 4096 }
+        ensures pages { length self.old.pages ≤ most_pages }
+        ensures pages_after { length self.new.pages ≤ most_pages }
         ensures unchanged { OnErr result (self.new ≡ self.old) }
         ensures full { (result ≡ Err ArenaError.ArenaFull) ↔ HasNoSpace self.old len }
-        ensures at_limit { IfErr result (λ e. e ≡ ArenaError.ArenaFull → (m : ℕ) → len ≤ m → IsAtLimit self.old m) }
+        ensures at_limit { IfErr result (λ e. e ≡ ArenaError.ArenaFull → IsAtLimitFrom len self.old) }
     {
         self.hand_out(len)
     }
 
+    // `allocate_space`, but for the laws that follow.
     #[inline]
     #[tactic(auto, unfolding(crate::specs::Arena::next_place, crate::specs::Arena::with_space, crate::specs::Arena::top))]
     fn hand_out(&mut self, len: usize) -> Result<Addr, ArenaError>
         requires some { 1 ≤ len }
         requires bound { len ≤ page_bytes }
         ensures first { 1 ≤ length self.old.pages }
-        ensures pages { length self.old.pages ≤ 4096 }
-        ensures pages_after { length self.new.pages ≤ 4096 }
+        ensures pages { length self.old.pages ≤ most_pages }
+        ensures pages_after { length self.new.pages ≤ most_pages }
         ensures last { length (page self.old (last_page self.old)) ≤ page_bytes }
         ensures place { IfOk result (λ addr. addr ≡ next_place self.old len) }
         ensures space { OnOk result (self.new ≡ with_space self.old len) }
         ensures unchanged { OnErr result (self.new ≡ self.old) }
         ensures full { (result ≡ Err ArenaError.ArenaFull) ↔ HasNoSpace self.old len }
-        ensures at_limit { IfErr result (λ e. e ≡ ArenaError.ArenaFull → (m : ℕ) → len ≤ m → IsAtLimit self.old m) }
+        ensures at_limit { IfErr result (λ e. e ≡ ArenaError.ArenaFull → IsAtLimitFrom len self.old) }
     {
         let last = self.pages.len() - 1;
         let place = self.pages[last].len();
@@ -110,7 +114,7 @@ impl MemoryArena {
         requires { Lies self.now addr len }
         ensures bytes { result.now ≡ bytes_at self.now addr len }
         ensures len { length result.now ≡ len }
-        ensures pages { length self.now.pages ≤ 4096 }
+        ensures pages { length self.now.pages ≤ most_pages }
     {
         let number = addr.number() as usize;
         self.pages[number / PAGE_SIZE].slice(number % PAGE_SIZE, len)
@@ -133,7 +137,7 @@ impl MemoryArena {
         ensures* writes_back { sem 𝓛 (LendsBytes self.entry addr result) }
         ensures bytes { result.now ≡ bytes_at self.old addr len }
         ensures len { length result.now ≡ len }
-        ensures pages { length self.old.pages ≤ 4096 }
+        ensures pages { length self.old.pages ≤ most_pages }
         ensures writes { (w : List ℕ) → length w ≡ len → Writes self.old (with_slice self.old addr w) addr w }
     {
         let number = addr.number() as usize;
@@ -156,12 +160,12 @@ impl MemoryArena {
         page.slice_mut(place, len)
     }
 
-    /// Writes bytes from an address on.
+    // Writes bytes from an address on.
     #[inline]
     pub(crate) fn write(&mut self, addr: Addr, new: &[u8])
         requires { Lies self.old addr (length new.now) }
         ensures written { Writes self.old self.new addr new.now }
-        ensures pages { length self.old.pages ≤ 4096 }
+        ensures pages { length self.old.pages ≤ most_pages }
     {
         fast_short_slice_copy(new, self.slice_mut(addr, new.len()));
     }
@@ -171,7 +175,7 @@ impl MemoryArena {
     pub fn read<Item: ArenaItem>(&self, addr: Addr) -> Item
         requires { Lies self.now addr Item.SIZE }
         ensures item { result ≡ Item.item (bytes_at self.now addr Item.SIZE) }
-        ensures pages { length self.now.pages ≤ 4096 }
+        ensures pages { length self.now.pages ≤ most_pages }
     {
         load(self.slice(addr, Item::SIZE))
     }
@@ -196,6 +200,7 @@ impl MemoryArena {
         last * PAGE_SIZE + self.pages[last].len()
     }
 
+    /// Whether nothing was handed out on the first page, which is the only one.
     #[tactic(auto, unfolding(crate::specs::Arena::top))]
     pub fn is_empty(&self) -> bool
         ensures { result ≡ (top self.now == 0) }
@@ -210,13 +215,13 @@ impl MemoryArena {
         self.pages.len() * PAGE_SIZE
     }
 
-    /// Hands out the first `len` bytes of a new page.
+    // Hands out the first `len` bytes of a new page.
     #[tactic(auto, unfolding(crate::specs::Arena::next_place, crate::specs::Arena::with_space, crate::specs::Arena::top))]
     fn add_page(&mut self, len: usize) -> Result<Addr, ArenaError>
         requires some { 1 ≤ len }
         requires bound { len ≤ page_bytes }
         requires no_room { page_bytes < length (page self.old (last_page self.old)) + len }
-        ensures pages_after { length self.new.pages ≤ 4096 }
+        ensures pages_after { length self.new.pages ≤ most_pages }
         ensures place { IfOk result (λ addr. addr ≡ next_place self.old len) }
         ensures space { OnOk result (self.new ≡ with_space self.old len) }
         ensures unchanged { OnErr result (self.new ≡ self.old) }

@@ -6,10 +6,10 @@ ghost use Rattle.tantivy_stacker.specs.Arena.{page_bytes, put_on_page};
 use std::alloc::{AllocError, Global};
 use std::marker::Model;
 
-/// The bytes of a page, 1 MiB.
+// The bytes of a page, 1 MiB.
 pub(crate) const PAGE_SIZE: usize = 1048576;
 
-/// A page: the bytes that were handed out on it. Its memory is all there from the start.
+// A page: the bytes that were handed out on it. Its memory is all there from the start.
 #[derive(Drop)]
 pub(crate) struct Page {
     bytes: Vec<u8>,
@@ -30,6 +30,7 @@ impl Model for Page {
 impl Page {
     ghost use Rattle.tantivy_stacker.specs.PageLending.{LendsPart};
 
+    // A page of which `len` bytes are handed out.
     pub(crate) fn new(alloc: Global, len: usize) -> Result<Page, AllocError>
         requires { len ≤ page_bytes }
         ensures { IfOk result (λ p. p ≡ replicate len 0) }
@@ -39,6 +40,7 @@ impl Page {
         Ok(Page { bytes })
     }
 
+    // How many bytes were handed out.
     pub(crate) fn len(&self) -> usize
         ensures value { result ≡ length self.now }
         ensures bound { result ≤ page_bytes }
@@ -46,7 +48,7 @@ impl Page {
         self.bytes.len()
     }
 
-    /// Hands out `len` more bytes.
+    // Hands out `len` more bytes.
     pub(crate) fn grow(&mut self, len: usize) -> Result<(), AllocError>
         requires { length self.old + len ≤ page_bytes }
         ensures grown { OnOk result (self.new ≡ self.old ++ replicate len 0) }
@@ -56,6 +58,7 @@ impl Page {
         self.bytes.resize(grown, 0)
     }
 
+    // The `len` handed-out bytes from a place on.
     pub(crate) fn slice(&self, place: usize, len: usize) -> &[u8]
         requires { place + len ≤ length self.now }
         ensures bytes { result.now ≡ take len (drop place self.now) }
@@ -65,7 +68,7 @@ impl Page {
         &bytes[place..place + len]
     }
 
-    /// The handed-out bytes from a place on.
+    // The handed-out bytes from a place on.
     pub(crate) fn slice_from(&self, place: usize) -> &[u8]
         requires { place ≤ length self.now }
         ensures { result.now ≡ drop place self.now }
@@ -74,7 +77,7 @@ impl Page {
         &bytes[place..]
     }
 
-    /// The `len` handed-out bytes from a place on, for writing.
+    // The `len` handed-out bytes from a place on, for writing.
     #[inline]
     pub(crate) fn slice_mut(&mut self, place: usize, len: usize) -> &mut [u8]
         requires { place + len ≤ length self.old }

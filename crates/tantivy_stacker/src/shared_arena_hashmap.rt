@@ -1,9 +1,10 @@
 // Hash maps whose entries stand in an arena that they share with others.
 ghost use Rattle.std.specs.Prelude.{Option, replicate, min, max, ◌⊎◌, List, Some, None, ◌≡◌, ◌≢◌, ℕ, ◌+◌, ◌-◌, ◌*◌, ◌%◌, ◌^◌, ◌<◌, ◌≤◌, ◌==◌, ◌↔◌, IsTrue, length, take, count_by, IfOk, OnOk, OnErr, IfErr};
-ghost use Rattle.tantivy_stacker.specs.Arena.{Arena, Lies, bytes_at, spent, IsFull, IsAtLimit};
+ghost use Rattle.tantivy_stacker.specs.Arena.{Arena, null_address, most_pages, Lies, spent, IsFull, StaysFull, IsAtLimitFrom};
 ghost use Rattle.tantivy_stacker.specs.Hashing.{hash_of};
-ghost use Rattle.tantivy_stacker.specs.Maps.{HasEntry, place, is_taken, IsTaken, Leads, key_length, key_at, IsHeldMap, Finds, EntryWritten, MapPuts, MapStays, MapWrite, AreUnique, Rehashes, IsFiledAnew, cut_key, IsTableSize, IsEmptyMap, CanBeRead, AreEntries, entries_of};
-ghost use Rattle.tantivy_stacker.specs.Probes.{ProbeIs, IsSearchable, IsAt, IsFreeFor, IsAbsent};
+ghost use Rattle.tantivy_stacker.specs.Maps.{least_doubled, is_taken, IsTaken, key_length, key_at, key_in, longest_key, table_bytes, IsHeldMap, Finds, EntryWritten, MapPuts, MapWrite, AreUnique, Rehashes, RehashesAll, IsFiledAnew, cut_key, IsTableSize, IsEmptyMap, CanBeRead, AreEntries, entries_in};
+ghost use Rattle.tantivy_stacker.specs.Mutations.{entry_bytes, MayUpdate, IsUpdated, DoublesWhereDue, Mutates};
+ghost use Rattle.tantivy_stacker.specs.Probes.{ProbeIs, IsSearchable, IsFreeFor, IsAbsent};
 
 use crate::hash::get_hash;
 use crate::map_iter::Iter;
@@ -12,24 +13,30 @@ use crate::{Addr, ArenaError, ArenaItem, MemoryArena, fast_short_slice_compare};
 use std::alloc::{AllocError, Global};
 use std::marker::{Model, PhantomData};
 
-/// What a search for a key found: the place that its entry takes, or the free place where it belongs.
+// The most bytes that a key has.
+const LONGEST_KEY: usize = 65535;
+
+// The fewest places that a table has once it doubled.
+const LEAST_DOUBLED: usize = 8;
+
+// What a search for a key found: the place that its entry takes, or the free place where it belongs.
 enum Probe {
     Taken(usize),
     Free(usize),
 }
 
-/// The key of the entry at an address.
+// The key of the entry at an address.
 #[inline]
 pub(crate) fn entry_key(arena: &MemoryArena, addr: Addr) -> &[u8]
     requires { Lies arena.now addr (2 + key_length arena.now addr + 1) }
     ensures key { result.now ≡ key_at arena.now addr }
-    ensures pages { length arena.now.pages ≤ 4096 }
+    ensures pages { length arena.now.pages ≤ most_pages }
 {
     let len = usize::from(arena.read::<u16>(addr));
     arena.slice(addr.offset(2), len)
 }
 
-/// The address of the value of the entry at an address.
+// The address of the value of the entry at an address.
 #[inline]
 pub(crate) fn value_addr(arena: &MemoryArena, addr: Addr) -> Addr
     requires { Lies arena.now addr (2 + key_length arena.now addr + 1) }
@@ -39,7 +46,7 @@ pub(crate) fn value_addr(arena: &MemoryArena, addr: Addr) -> Addr
     addr.offset(2 + u32::from(len))
 }
 
-/// Whether the entry of a place has this key. Only where the hashes agree are the keys compared.
+// Whether the entry of a place has this key. Only where the hashes agree are the keys compared.
 #[inline]
 fn has_key(arena: &MemoryArena, taken: KeyValue, key: &[u8], hash: u32) -> bool
     requires lies { Lies arena.now taken.0 (2 + key_length arena.now taken.0 + 1) }
@@ -50,7 +57,7 @@ fn has_key(arena: &MemoryArena, taken: KeyValue, key: &[u8], hash: u32) -> bool
     taken.hash() == hash && fast_short_slice_compare(entry_key(arena, taken.addr()), key)
 }
 
-/// Searches for a key: the places from the home of its hash on, up to the first free one.
+// Searches for a key: the places from the home of its hash on, up to the first free one.
 #[inline]
 fn find(places: &[KeyValue], arena: &MemoryArena, key: &[u8], hash: u32) -> Probe
     requires table { IsSearchable arena.now places.now }
@@ -71,25 +78,25 @@ fn find(places: &[KeyValue], arena: &MemoryArena, key: &[u8], hash: u32) -> Prob
     unreachable!()
 }
 
-/// The first 65,535 bytes of a key, or all where it has fewer.
+// The first 65,535 bytes of a key, or all where it has fewer.
 #[inline]
 fn cut(key: &[u8]) -> &[u8]
     ensures value { result.now ≡ cut_key key.now }
-    ensures short { length result.now ≤ 65535 }
+    ensures short { length result.now ≤ longest_key }
 {
-    if key.len() > 65535 {
-        &key[..65535]
+    if key.len() > LONGEST_KEY {
+        &key[..LONGEST_KEY]
     } else {
         key
     }
 }
 
-/// Writes an entry: the length of its key as `u16`, the key and the value.
+// Writes an entry: the length of its key as `u16`, the key and the value.
 #[inline]
 fn write_entry<V: ArenaItem>(arena: &mut MemoryArena, addr: Addr, key: &[u8], value: V)
     requires lies { Lies arena.old addr (2 + length key.now + V.SIZE) }
-    requires short { length key.now ≤ 65535 }
-    requires pages { length arena.old.pages ≤ 4096 }
+    requires short { length key.now ≤ longest_key }
+    requires pages { length arena.old.pages ≤ most_pages }
     ensures { EntryWritten V.SIZE V.item arena.old arena.new addr key.now value }
 {
     let len = key.len() as u16;
@@ -98,9 +105,9 @@ fn write_entry<V: ArenaItem>(arena: &mut MemoryArena, addr: Addr, key: &[u8], va
     arena.write_at(addr.offset(2 + u32::from(len)), value);
 }
 
-/// Files each taken place of one table in another, which is empty.
+// Files each taken place of one table in another, which is empty.
 fn fill_from(table: &mut Vec<KeyValue>, places: &[KeyValue])
-    requires empty { table.old.items ≡ replicate (length table.old.items) (4294967295, 0) }
+    requires empty { table.old.items ≡ replicate (length table.old.items) (null_address, 0) }
     requires unique { AreUnique places.now }
     requires room { count_by is_taken places.now < length table.old.items }
     ensures rehashed { Rehashes places.now table.new.items (length places.now) }
@@ -111,12 +118,12 @@ fn fill_from(table: &mut Vec<KeyValue>, places: &[KeyValue])
     }
 }
 
-/// Files a taken place in a table.
+// Files a taken place in a table.
 #[inline]
 fn file(table: &mut Vec<KeyValue>, taken: KeyValue)
     requires { count_by is_taken table.old.items < length table.old.items }
-    ensures free { taken.0 ≡ 4294967295 → table.new.items ≡ table.old.items }
-    ensures filed { taken.0 ≢ 4294967295 → IsFiledAnew table.old.items table.new.items taken }
+    ensures free { taken.0 ≡ null_address → table.new.items ≡ table.old.items }
+    ensures filed { taken.0 ≢ null_address → IsFiledAnew table.old.items table.new.items taken }
 {
     if taken.is_free() {
         return;
@@ -150,7 +157,7 @@ pub fn compute_table_memory_size(capacity: usize) -> usize
     capacity * 8
 }
 
-/// The greatest power of two at most `size`, but at least 2.
+// The greatest power of two at most `size`, but at least 2.
 #[tactic(auto, unfolding(crate::specs::Maps::IsTableSize))]
 fn table_len(size: usize) -> usize
     requires some { 1 ≤ size }
@@ -186,7 +193,7 @@ impl<V: ArenaItem> SharedArenaHashMap<V> {
 
     /// The bytes of the table, or the greatest `usize` where they are more.
     pub fn mem_usage(&self) -> usize
-        ensures { result ≡ min (length self.now.places * 8) (2 ^ 64 - 1) }
+        ensures { result ≡ min (table_bytes self.now) (2 ^ 64 - 1) }
     {
         self.table.len().saturating_mul(8)
     }
@@ -209,24 +216,26 @@ impl<V: ArenaItem> SharedArenaHashMap<V> {
         ensures places { result.places.now ≡ self.now.places }
         ensures arena { result.memory_arena.now ≡ memory_arena.now }
         ensures readable { CanBeRead result.memory_arena.now result.places.now }
-        ensures entries { AreEntries V.SIZE V.item memory_arena.now self.now (entries_of result.memory_arena.now result.places.now) }
+        ensures entries { AreEntries V.SIZE V.item memory_arena.now self.now (entries_in memory_arena.now self.now) }
     {
         Iter::over(self.table.as_slice(), memory_arena)
     }
 
+    /// How many keys the map has.
     pub fn len(&self) -> usize
         ensures { result ≡ self.now.count }
     {
         self.len
     }
 
+    /// Whether the map has no key.
     pub fn is_empty(&self) -> bool
         ensures { result ≡ (self.now.count == 0) }
     {
         self.len == 0
     }
 
-    /// Gives the entry at a place the value that the updater makes of its value.
+    // Gives the entry at a place the value that the updater makes of its value.
     #[inline]
     fn update<F: FnOnce(Option<V>) -> V>(
         &self,
@@ -236,10 +245,10 @@ impl<V: ArenaItem> SharedArenaHashMap<V> {
     ) -> V
         requires held { IsHeldMap V.SIZE arena.old self.now }
         requires taken { IsTaken self.now.places bucket }
-        requires callable { (before : V) → HasEntry V.SIZE V.item arena.old self.now (key_at arena.old (place self.now.places bucket).0) before → F.pre updater (Some before) }
+        requires callable { MayUpdate V.SIZE V.item arena.old self.now (key_in arena.old self.now bucket) (F.pre updater) }
         ensures write { MapWrite V.SIZE arena.old arena.new self.now self.now }
-        ensures puts { MapPuts V.SIZE V.item arena.old arena.new self.now self.now (key_at arena.old (place self.now.places bucket).0) result }
-        ensures called { (before : V) × HasEntry V.SIZE V.item arena.old self.now (key_at arena.old (place self.now.places bucket).0) before × F.post updater (Some before) result }
+        ensures puts { MapPuts V.SIZE V.item arena.old arena.new self.now self.now (key_in arena.old self.now bucket) result }
+        ensures called { IsUpdated V.SIZE V.item arena.old self.now (key_in arena.old self.now bucket) (F.post updater) result }
         ensures spends { spent arena.new ≡ spent arena.old }
         ensures full { (m : ℕ) → IsFull arena.old m → IsFull arena.new m }
     {
@@ -249,7 +258,7 @@ impl<V: ArenaItem> SharedArenaHashMap<V> {
         value
     }
 
-    /// Adds an entry at a free place.
+    // Adds an entry at a free place.
     #[inline]
     fn create<F: FnOnce(Option<V>) -> V>(
         &mut self,
@@ -262,17 +271,19 @@ impl<V: ArenaItem> SharedArenaHashMap<V> {
         requires held { IsHeldMap V.SIZE arena.old self.old }
         requires free { IsFreeFor arena.old self.old.places key.now hash bucket }
         requires hash { hash ≡ hash_of key.now }
-        requires short { length key.now ≤ 65535 }
+        requires short { length key.now ≤ longest_key }
         requires room { self.old.count + 1 < length self.old.places }
         requires callable { F.pre updater None }
         ensures write { OnOk result (MapWrite V.SIZE arena.old arena.new self.old self.new) }
         ensures puts { IfOk result (λ v. MapPuts V.SIZE V.item arena.old arena.new self.old self.new key.now v) }
         ensures called { IfOk result (λ v. F.post updater None v) }
-        ensures spends { OnOk result (spent arena.new ≡ spent arena.old + (2 + length key.now + V.SIZE)) }
-        ensures full { OnOk result ((m : ℕ) → 2 + length key.now + V.SIZE ≤ m → IsFull arena.old m → IsFull arena.new m) }
+        ensures spends { OnOk result (spent arena.new ≡ spent arena.old + entry_bytes V.SIZE key.now) }
+        ensures full { OnOk result (StaysFull (entry_bytes V.SIZE key.now) arena.old arena.new) }
+        ensures count { OnOk result (self.new.count ≡ self.old.count + 1) }
+        ensures places { OnOk result (length self.new.places ≡ length self.old.places) }
         ensures unchanged { OnErr result (self.new ≡ self.old) }
         ensures arena { OnErr result (arena.new ≡ arena.old) }
-        ensures at_limit { IfErr result (λ e. e ≡ ArenaError.ArenaFull → (m : ℕ) → 2 + length key.now + V.SIZE ≤ m → IsAtLimit arena.old m) }
+        ensures at_limit { IfErr result (λ e. e ≡ ArenaError.ArenaFull → IsAtLimitFrom (entry_bytes V.SIZE key.now) arena.old) }
     {
         let addr = match arena.allocate_space(2 + key.len() + V::SIZE) {
             Ok(addr) => addr,
@@ -285,19 +296,19 @@ impl<V: ArenaItem> SharedArenaHashMap<V> {
         Ok(value)
     }
 
-    /// Doubles the table, to at least 8 places.
+    // Doubles the table, to at least 8 places.
     fn resize(&mut self) -> Result<(), AllocError>
         requires unique { AreUnique self.old.places }
         requires counted { count_by is_taken self.old.places ≡ self.old.count }
         requires room { self.old.count < length self.old.places }
         ensures some { OnOk result (2 ≤ length self.new.places) }
-        ensures rehashed { OnOk result (Rehashes self.old.places self.new.places (length self.old.places)) }
-        ensures size { OnOk result (length self.new.places ≡ max (length self.old.places * 2) 8) }
+        ensures rehashed { OnOk result (RehashesAll self.old.places self.new.places) }
+        ensures size { OnOk result (length self.new.places ≡ max (length self.old.places * 2) least_doubled) }
         ensures room { OnOk result (self.new.count * 2 < length self.new.places) }
         ensures count { self.new.count ≡ self.old.count }
         ensures unchanged { OnErr result (self.new ≡ self.old) }
     {
-        let len = (self.table.len() * 2).max(8);
+        let len = (self.table.len() * 2).max(LEAST_DOUBLED);
         let mut table = Vec::new(self.alloc);
         table.resize(len, KeyValue::free())?;
         fill_from(&mut table, self.table.as_slice());
@@ -305,7 +316,7 @@ impl<V: ArenaItem> SharedArenaHashMap<V> {
         Ok(())
     }
 
-    /// Doubles the table where its places are at most twice its entries.
+    // Doubles the table where its places are at most twice its entries.
     #[inline]
     fn make_room(&mut self) -> Result<(), AllocError>
         requires unique { AreUnique self.old.places }
@@ -313,7 +324,8 @@ impl<V: ArenaItem> SharedArenaHashMap<V> {
         requires room { self.old.count < length self.old.places }
         requires some { 2 ≤ length self.old.places }
         ensures some { OnOk result (2 ≤ length self.new.places) }
-        ensures rehashed { OnOk result ((self.new ≡ self.old) ⊎ Rehashes self.old.places self.new.places (length self.old.places)) }
+        ensures rehashed { OnOk result ((self.new ≡ self.old) ⊎ RehashesAll self.old.places self.new.places) }
+        ensures doubles { OnOk result (DoublesWhereDue self.old self.new) }
         ensures room { OnOk result (self.new.count * 2 < length self.new.places) }
         ensures count { self.new.count ≡ self.old.count }
         ensures unchanged { OnErr result (self.new ≡ self.old) }
@@ -334,17 +346,8 @@ impl<V: ArenaItem> SharedArenaHashMap<V> {
         updater: F,
     ) -> Result<V, ArenaError>
         requires held { IsHeldMap V.SIZE arena.old self.old }
-        requires callable { (before : Option V) → Finds V.SIZE V.item arena.old self.old (cut_key key.now) before → F.pre updater before }
-        ensures write { MapWrite V.SIZE arena.old arena.new self.old self.new }
-        ensures puts { IfOk result (λ v. MapPuts V.SIZE V.item arena.old arena.new self.old self.new (cut_key key.now) v) }
-        ensures called { IfOk result (λ v. (before : Option V) × Finds V.SIZE V.item arena.old self.old (cut_key key.now) before × F.post updater before v) }
-        ensures same { OnErr result (MapStays V.SIZE V.item arena.old arena.new self.old self.new) }
-        ensures arena { OnErr result (arena.new ≡ arena.old) }
-        ensures space { spent arena.new ≤ spent arena.old + (2 + length (cut_key key.now) + V.SIZE) }
-        ensures there { (IsAbsent arena.old self.old.places (cut_key key.now) → ⊥) → spent arena.new ≡ spent arena.old }
-        ensures full { (m : ℕ) → 2 + length (cut_key key.now) + V.SIZE ≤ m → IsFull arena.old m → IsFull arena.new m }
-        ensures absent { IfErr result (λ e. e ≡ ArenaError.ArenaFull → IsAbsent arena.old self.old.places (cut_key key.now)) }
-        ensures at_limit { IfErr result (λ e. e ≡ ArenaError.ArenaFull → (m : ℕ) → 2 + length (cut_key key.now) + V.SIZE ≤ m → IsAtLimit arena.old m) }
+        requires callable { MayUpdate V.SIZE V.item arena.old self.old (cut_key key.now) (F.pre updater) }
+        ensures { Mutates V.SIZE V.item arena.old arena.new self.old self.new (cut_key key.now) (F.post updater) result }
     {
         match self.make_room() {
             Ok(()) => {}
@@ -353,7 +356,7 @@ impl<V: ArenaItem> SharedArenaHashMap<V> {
         self.put(cut(key), arena, updater)
     }
 
-    /// `mutate_or_create`, of a map that has room.
+    // `mutate_or_create`, of a map that has room.
     #[inline]
     fn put<F: FnOnce(Option<V>) -> V>(
         &mut self,
@@ -363,18 +366,21 @@ impl<V: ArenaItem> SharedArenaHashMap<V> {
     ) -> Result<V, ArenaError>
         requires held { IsHeldMap V.SIZE arena.old self.old }
         requires room { self.old.count + 1 < length self.old.places }
-        requires short { length key.now ≤ 65535 }
-        requires callable { (before : Option V) → Finds V.SIZE V.item arena.old self.old key.now before → F.pre updater before }
+        requires short { length key.now ≤ longest_key }
+        requires callable { MayUpdate V.SIZE V.item arena.old self.old key.now (F.pre updater) }
         ensures write { OnOk result (MapWrite V.SIZE arena.old arena.new self.old self.new) }
         ensures puts { IfOk result (λ v. MapPuts V.SIZE V.item arena.old arena.new self.old self.new key.now v) }
-        ensures called { IfOk result (λ v. (before : Option V) × Finds V.SIZE V.item arena.old self.old key.now before × F.post updater before v) }
+        ensures called { IfOk result (IsUpdated V.SIZE V.item arena.old self.old key.now (F.post updater)) }
         ensures unchanged { OnErr result (self.new ≡ self.old) }
         ensures arena { OnErr result (arena.new ≡ arena.old) }
-        ensures space { spent arena.new ≤ spent arena.old + (2 + length key.now + V.SIZE) }
+        ensures space { spent arena.new ≤ spent arena.old + entry_bytes V.SIZE key.now }
         ensures there { (IsAbsent arena.old self.old.places key.now → ⊥) → spent arena.new ≡ spent arena.old }
-        ensures full { (m : ℕ) → 2 + length key.now + V.SIZE ≤ m → IsFull arena.old m → IsFull arena.new m }
+        ensures full { StaysFull (entry_bytes V.SIZE key.now) arena.old arena.new }
+        ensures places { length self.new.places ≡ length self.old.places }
+        ensures one_more { OnOk result (IsAbsent arena.old self.old.places key.now → self.new.count ≡ self.old.count + 1) }
+        ensures same_count { (IsAbsent arena.old self.old.places key.now → ⊥) → self.new.count ≡ self.old.count }
         ensures absent { OnErr result (IsAbsent arena.old self.old.places key.now) }
-        ensures at_limit { IfErr result (λ e. e ≡ ArenaError.ArenaFull → (m : ℕ) → 2 + length key.now + V.SIZE ≤ m → IsAtLimit arena.old m) }
+        ensures at_limit { IfErr result (λ e. e ≡ ArenaError.ArenaFull → IsAtLimitFrom (entry_bytes V.SIZE key.now) arena.old) }
     {
         let hash = get_hash(key);
         match find(self.table.as_slice(), arena, key, hash) {

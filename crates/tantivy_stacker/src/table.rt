@@ -1,11 +1,12 @@
 // The table of a hash map: where the search for a hash begins, and how it goes on.
 ghost use Rattle.std.specs.Prelude.{◌≡◌, ◌≢◌, ℕ, ◌+◌, ◌-◌, ◌<◌, ◌≤◌, ◌==◌, length, count_by, if◌then◌else◌};
-ghost use Rattle.tantivy_stacker.specs.Maps.{place, is_taken, IsTaken, home as home_of, turn, Leads};
+ghost use Rattle.tantivy_stacker.specs.Arena.{null_address};
+ghost use Rattle.tantivy_stacker.specs.Maps.{place, is_taken, home as home_of, Leads};
 
 use crate::Addr;
 use std::marker::Model;
 
-/// A place of a table: the address of an entry, or the null address, and the hash of its key.
+// A place of a table: the address of an entry, or the null address, and the hash of its key.
 #[derive(Clone, Copy)]
 pub(crate) struct KeyValue {
     key_value_addr: Addr,
@@ -23,8 +24,9 @@ impl Model for KeyValue {
 }
 
 impl KeyValue {
+    // A place that no entry takes.
     pub(crate) fn free() -> KeyValue
-        ensures { result ≡ (4294967295, 0) }
+        ensures { result ≡ (null_address, 0) }
     {
         KeyValue {
             key_value_addr: Addr::null_pointer(),
@@ -32,6 +34,7 @@ impl KeyValue {
         }
     }
 
+    // The place of an entry.
     pub(crate) fn new(key_value_addr: Addr, hash: u32) -> KeyValue
         ensures { result ≡ (key_value_addr, hash) }
     {
@@ -41,13 +44,15 @@ impl KeyValue {
         }
     }
 
+    // Whether no entry takes it.
     #[inline]
     pub(crate) fn is_free(self) -> bool
-        ensures { result ≡ (self.0 == 4294967295) }
+        ensures { result ≡ (self.0 == null_address) }
     {
         self.key_value_addr.is_null()
     }
 
+    // The address of the entry, or the null address.
     #[inline]
     pub(crate) fn addr(self) -> Addr
         ensures { result ≡ self.0 }
@@ -55,6 +60,7 @@ impl KeyValue {
         self.key_value_addr
     }
 
+    // The hash of the entry's key.
     #[inline]
     pub(crate) fn hash(self) -> u32
         ensures { result ≡ self.1 }
@@ -63,7 +69,7 @@ impl KeyValue {
     }
 }
 
-/// Where the search for a hash begins, in a table of so many places.
+// Where the search for a hash begins, in a table of so many places.
 #[inline]
 #[tactic(auto, unfolding(crate::specs::Maps::home), using(crate::proofs::Tables::and_below))]
 pub(crate) fn home(len: usize, hash: u32) -> usize
@@ -74,7 +80,7 @@ pub(crate) fn home(len: usize, hash: u32) -> usize
     hash as usize & (len - 1)
 }
 
-/// The place after this one.
+// The place after this one: the first follows on the last.
 #[inline]
 pub(crate) fn next_bucket(bucket: usize, len: usize) -> usize
     requires { bucket < len }
@@ -84,12 +90,12 @@ pub(crate) fn next_bucket(bucket: usize, len: usize) -> usize
     if next == len { 0 } else { next }
 }
 
-/// The first free place that a search for a hash meets.
+// The first free place that a search for a hash meets.
 #[inline]
 pub(crate) fn free_place(places: &[KeyValue], hash: u32) -> usize
     requires { count_by is_taken places.now < length places.now }
     ensures leads { Leads places.now hash result }
-    ensures free { (place places.now result).0 ≡ 4294967295 }
+    ensures free { (place places.now result).0 ≡ null_address }
     ensures bound { result < length places.now }
 {
     let mut bucket = home(places.len(), hash);

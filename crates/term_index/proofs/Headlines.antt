@@ -1,113 +1,68 @@
--- What is appended where a command ends well, and that else nothing is.
-use Rattle.std.proofs.Common.{◌≡◌, ◌≢◌, ℕ, List, Option, Some, None, refl, subst}
-use Rattle.std.specs.Io.KnownBytes.{Appends, Keeps}
+-- What is appended where a command is done.
+use Rattle.std.proofs.Common.{◌≡◌, ℕ, List, Option, Some, None, refl, subst}
+use Rattle.std.specs.Io.KnownBytes.{Appends}
+use Rattle.owned_bytes.specs.Outside.{FileState}
 use Rattle.term_index.specs.declared.outcome.Outcome.{Outcome}
-use Rattle.term_index.specs.declared.outcome.Outcome.TheVariants.{Done, Usage, NotYet, InputTooLong, BadInput, Query, TooDeep, UnsupportedSlop, UnsupportedRegex, Version, Corrupt, Compressed, InFault, StoreFault, ReadFault, OutFault, Memory}
+use Rattle.term_index.specs.declared.outcome.Outcome.TheVariants.{Done, OutFault}
 use Rattle.term_index.specs.Commands.{Command, build, search, ask, tree, generate}
+use Rattle.term_index.specs.Reading.{docs_of}
 use Rattle.term_index.specs.Printing.{lines}
-use Rattle.term_index.specs.Running.{Builds, Searches, Asks, PrintsTree, Told, Does}
-use Rattle.term_index.specs.Headline.{AppendsIndexOf, AppendsSatisfying, AppendsMeaning, OfDocuments, OfIndexed}
+use Rattle.term_index.specs.Giving.{Gives}
+use Rattle.term_index.specs.Build.{Builds}
+use Rattle.term_index.specs.Search.{IsFound, Searches}
+use Rattle.term_index.specs.Ask.{Asks}
+use Rattle.term_index.specs.Running.{CommandStores, CommandPrints}
+use Rattle.term_index.specs.Headline.{CommandBuilt, CommandFound, OfDocuments, OfIndexed, AppendsIndexOf, AppendsNumbers}
 
-pub builds_index : (pages : ℕ) (left old new : Option (List ℕ)) → Builds pages Done left old new → OfDocuments left (λ docs. AppendsIndexOf docs old new)
-builds_index pages None old new says = tt
-builds_index pages (Some bytes) old new says = (says.0, says.1.spelled, (says.2.file, says.2.written.index, says.2.appended))
+builds_index : (pages : ℕ) (left old new : Option (List ℕ)) → Builds pages Done left old new → OfDocuments left (λ docs. AppendsIndexOf docs old new)
+builds_index pages None old new builds = tt
+builds_index pages (Some bytes) old new builds =
+    let says = builds.done refl in
+    let told = says.1.told in
+    (says.1.docs, subst (λ (held : List ℕ). docs_of held ≡ Some says.1.docs) told.held told.spell.spelled, record { file = says.0; index = says.1.written.index; appended = says.2 })
 
-pub finds_satisfying : (field query : List ℕ) (file old new : Option (List ℕ)) → Searches field query Done file old new → OfIndexed file (λ docs. AppendsSatisfying query field docs old new)
-finds_satisfying field query None old new says = tt
-finds_satisfying field query (Some bytes) old new says = λ docs index.
-    (says.1.tree, says.1.searched.taken.tree_is, subst (λ (ids : List ℕ). Appends old new (lines ids)) (says.1.satisfying docs index) says.2)
+pub built : (outcome : Outcome) (left old new : Option (List ℕ)) (command : Command) → CommandStores outcome left old new command → outcome ≡ Done → CommandBuilt left old new command
+built outcome left old new (build path pages) stores is = builds_index pages left old new (subst (λ (o : Outcome). Builds pages o left old new) is stores)
+built outcome left old new (search path field query) stores is = tt
+built outcome left old new (ask field query) stores is = tt
+built outcome left old new (tree query) stores is = tt
+built outcome left old new (generate seed count) stores is = tt
 
-pub finds_meaning : (field query : List ℕ) (file old new : Option (List ℕ)) → Searches field query Done file old new → OfIndexed file (λ docs. AppendsMeaning query docs old new)
-finds_meaning field query None old new says = tt
-finds_meaning field query (Some bytes) old new says = λ docs index e is.
-    subst (λ (ids : List ℕ). Appends old new (lines ids)) (says.1.meaning docs index e is) says.2
+finds : (query field : List ℕ) (file old new : Option (List ℕ)) → Gives (IsFound query field file) OutFault Done old new → OfIndexed file (AppendsNumbers query field old new)
+finds query field None old new searches = tt
+finds query field (Some bytes) old new searches = λ docs index.
+    let says = searches.done refl in
+    let found = says.1 in
+    let appended : Appends old new (lines found.ids) = subst (Appends old new) found.text_is says.2 in
+    record {
+      tree = found.tree;
+      tree_is = found.searched.taken.tree_is;
+      satisfying = subst (λ (ids : List ℕ). Appends old new (lines ids)) (found.found docs index).satisfying appended;
+      meaning = λ e printed. subst (λ (ids : List ℕ). Appends old new (lines ids)) ((found.found docs index).meaning e printed) appended;
+    }
 
-pub asks_satisfying : (field query : List ℕ) (left old new : Option (List ℕ)) → Asks field query Done left old new → OfDocuments left (λ docs. AppendsSatisfying query field docs old new)
-asks_satisfying field query None old new says = tt
-asks_satisfying field query (Some bytes) old new says =
-    let finds = says.2.1 in
-    (says.0, says.1.spelled, (finds.tree, finds.searched.taken.tree_is, subst (λ (ids : List ℕ). Appends old new (lines ids)) finds.satisfying says.2.2))
+answers : (query field : List ℕ) (left old new : Option (List ℕ)) → Asks query field Done left old new → OfDocuments left (AppendsNumbers query field old new)
+answers query field None old new asks = tt
+answers query field (Some bytes) old new asks =
+    let says = asks.done refl in
+    let told = says.1.told in
+    let answered = says.1.answered in
+    let appended : Appends old new (lines answered.ids) = subst (Appends old new) answered.text_is says.2 in (
+      says.1.docs,
+      subst (λ (held : List ℕ). docs_of held ≡ Some says.1.docs) told.held told.spell.spelled,
+      record {
+        tree = answered.tree;
+        tree_is = answered.searched.taken.tree_is;
+        satisfying = subst (λ (ids : List ℕ). Appends old new (lines ids)) answered.found.satisfying appended;
+        meaning = λ e printed. subst (λ (ids : List ℕ). Appends old new (lines ids)) (answered.found.meaning e printed) appended;
+      },
+    )
 
-pub asks_meaning : (field query : List ℕ) (left old new : Option (List ℕ)) → Asks field query Done left old new → OfDocuments left (λ docs. AppendsMeaning query docs old new)
-asks_meaning field query None old new says = tt
-asks_meaning field query (Some bytes) old new says =
-    (says.0, says.1.spelled, λ e is. subst (λ (ids : List ℕ). Appends old new (lines ids)) (says.2.1.meaning e is) says.2.2)
-
--- ---- nothing
-
-same_keeps : (old new : Option (List ℕ)) → new ≡ old → Keeps old new
-same_keeps None new e = tt
-same_keeps (Some xs) None e = cc
-same_keeps (Some xs) (Some ys) e = (let inner : Some ys ≡ Some xs = e in cc)
-
-builds_nothing : (pages : ℕ) (outcome : Outcome) (left old new : Option (List ℕ)) → Builds pages outcome left old new → outcome ≢ Done → outcome ≢ StoreFault → outcome ≢ Memory → Keeps old new
-builds_nothing pages Done left old new says not_done not_fault not_memory = absurd (not_done refl)
-builds_nothing pages StoreFault left old new says not_done not_fault not_memory = absurd (not_fault refl)
-builds_nothing pages Memory left old new says not_done not_fault not_memory = absurd (not_memory refl)
-builds_nothing pages InFault left old new says not_done not_fault not_memory = says.1
-builds_nothing pages InputTooLong left old new says not_done not_fault not_memory = says.1
-builds_nothing pages BadInput left old new says not_done not_fault not_memory = says.1
-builds_nothing pages _ left old new says not_done not_fault not_memory = says.2.1
-
-pub unwritten : (command : Command) (outcome : Outcome) (old new : Told) → Does command outcome old new → outcome ≢ Done → outcome ≢ StoreFault → outcome ≢ Memory → Keeps old.store new.store
-unwritten (build path pages) outcome old new does = builds_nothing pages outcome old.left old.store new.store does.0
-unwritten (search path field query) outcome old new does = λ not_done not_fault not_memory. same_keeps old.store new.store does.1
-unwritten (ask field query) outcome old new does = λ not_done not_fault not_memory. same_keeps old.store new.store does.1
-unwritten (tree query) outcome old new does = λ not_done not_fault not_memory. same_keeps old.store new.store does.1
-unwritten (generate seed count) outcome old new does = λ not_done not_fault not_memory. same_keeps old.store new.store does.1
-
-searches_nothing : (field query : List ℕ) (outcome : Outcome) (file old new : Option (List ℕ)) → Searches field query outcome file old new → outcome ≢ Done → outcome ≢ OutFault → outcome ≢ Memory → Keeps old new
-searches_nothing field query Done file old new says not_done not_fault not_memory = absurd (not_done refl)
-searches_nothing field query OutFault file old new says not_done not_fault not_memory = absurd (not_fault refl)
-searches_nothing field query Memory file old new says not_done not_fault not_memory = absurd (not_memory refl)
-searches_nothing field query NotYet file old new says not_done not_fault not_memory = says.3
-searches_nothing field query Query file old new says not_done not_fault not_memory = says.1
-searches_nothing field query TooDeep file old new says not_done not_fault not_memory = says.1
-searches_nothing field query UnsupportedSlop file old new says not_done not_fault not_memory = says.1
-searches_nothing field query UnsupportedRegex file old new says not_done not_fault not_memory = says.1
-searches_nothing field query (Version version) file old new says not_done not_fault not_memory = says.2
-searches_nothing field query Corrupt file old new says not_done not_fault not_memory = says.2
-searches_nothing field query (Compressed place) file old new says not_done not_fault not_memory = says.2
-searches_nothing field query ReadFault file old new says not_done not_fault not_memory = says.1
-searches_nothing field query _ file old new says not_done not_fault not_memory = absurd says
-
-asks_nothing : (field query : List ℕ) (outcome : Outcome) (left old new : Option (List ℕ)) → Asks field query outcome left old new → outcome ≢ Done → outcome ≢ OutFault → outcome ≢ Memory → Keeps old new
-asks_nothing field query Done left old new says not_done not_fault not_memory = absurd (not_done refl)
-asks_nothing field query OutFault left old new says not_done not_fault not_memory = absurd (not_fault refl)
-asks_nothing field query Memory left old new says not_done not_fault not_memory = absurd (not_memory refl)
-asks_nothing field query InFault left old new says not_done not_fault not_memory = says.1
-asks_nothing field query InputTooLong left old new says not_done not_fault not_memory = says.1
-asks_nothing field query BadInput left old new says not_done not_fault not_memory = says.1
-asks_nothing field query NotYet left old new says not_done not_fault not_memory = says.2.2
-asks_nothing field query Query left old new says not_done not_fault not_memory = says.2.2
-asks_nothing field query TooDeep left old new says not_done not_fault not_memory = says.2.2
-asks_nothing field query UnsupportedSlop left old new says not_done not_fault not_memory = says.2.2
-asks_nothing field query UnsupportedRegex left old new says not_done not_fault not_memory = says.2.2
-asks_nothing field query _ left old new says not_done not_fault not_memory = says.2.1
-
-shows_nothing : (query : List ℕ) (outcome : Outcome) (old new : Option (List ℕ)) → PrintsTree query outcome old new → outcome ≢ Done → outcome ≢ OutFault → outcome ≢ Memory → Keeps old new
-shows_nothing query Done old new says not_done not_fault not_memory = absurd (not_done refl)
-shows_nothing query OutFault old new says not_done not_fault not_memory = absurd (not_fault refl)
-shows_nothing query Memory old new says not_done not_fault not_memory = absurd (not_memory refl)
-shows_nothing query Query old new says not_done not_fault not_memory = says.1
-shows_nothing query TooDeep old new says not_done not_fault not_memory = says.1
-shows_nothing query _ old new says not_done not_fault not_memory = absurd says
-
-pub unprinted : (command : Command) (outcome : Outcome) (old new : Told) → Does command outcome old new → outcome ≢ Done → outcome ≢ OutFault → outcome ≢ Memory → Keeps old.output new.output
-unprinted (build path pages) outcome old new does = λ not_done not_fault not_memory. same_keeps old.output new.output does.1
-unprinted (search path field query) outcome old new does = searches_nothing field query outcome old.file old.output new.output does.0
-unprinted (ask field query) outcome old new does = asks_nothing field query outcome old.left old.output new.output does.0
-unprinted (tree query) outcome old new does = shows_nothing query outcome old.output new.output does.0
-unprinted (generate seed count) outcome old new does = λ not_done not_fault not_memory. same_keeps old.output new.output does.2
-
--- ---- no command ends as no command
-
-ends_as_none : (command : Command) (old new : Told) → Does command Usage old new → ⊥
-ends_as_none (build path pages) old new does = does.0.2.0
-ends_as_none (search path field query) old new does = does.0
-ends_as_none (ask field query) old new does = does.0.2.0
-ends_as_none (tree query) old new does = does.0
-ends_as_none (generate seed count) old new does = (let e : Usage ≡ NotYet = does.0 in cc)
-
-pub not_usage : (command : Command) (outcome : Outcome) (old new : Told) → Does command outcome old new → outcome ≡ Usage → ⊥
-not_usage command outcome old new does is = ends_as_none command old new (subst (λ (o : Outcome). Does command o old new) is does)
+pub found : (outcome : Outcome) (left : Option (List ℕ)) (file : FileState) (old new : Option (List ℕ)) (command : Command) → CommandPrints outcome left file old new command → outcome ≡ Done → CommandFound left file old new command
+found outcome left file old new (build path pages) prints is = tt
+found outcome left file old new (search path field query) prints is = finds query field file.contents old new (subst (λ (o : Outcome). Searches query field o file old new) is prints)
+found outcome left file old new (ask field query) prints is = answers query field left old new (subst (λ (o : Outcome). Asks query field o left old new) is prints)
+found outcome left file old new (tree query) prints is =
+    let says = prints.done is in
+    record { tree = says.1.tree; tree_is = says.1.tree_is; appended = subst (Appends old new) says.1.text_is says.2 }
+found outcome left file old new (generate seed count) prints is = tt

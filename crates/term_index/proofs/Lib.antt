@@ -1,9 +1,14 @@
 pub mod Values
 pub mod Forms
-pub mod Prefixes
 pub mod OneCommand
-pub mod Found
+pub mod Prefixes
 pub mod Valid
 pub mod OtherVersion
-pub mod Endings
+pub mod SourceLaws
+pub mod GivingLaws
+pub mod BuildLaws
+pub mod SearchLaws
+pub mod AskLaws
+pub mod TreeLaws
+pub mod Possible
 pub mod Headlines

@@ -1,70 +1,43 @@
 -- Words are one command.
-use Rattle.std.proofs.Common.{◌≡◌, ◌∙◌, ℕ, List, [], ◌∷◌, get_or, refl, sym, ap, subst, arith}
-use Rattle.std.specs.Prelude.{decimal}
-use Rattle.term_index.specs.Commands.{Command, build, search, ask, tree, generate, IsCommand, IsWithinLimits, OfSearch}
-use Rattle.term_index.proofs.Forms.{decimal_once}
+use Rattle.std.proofs.Common.{◌≡◌, ◌∙◌, ℕ, List, [], get_or, refl, sym, ap, subst, arith}
+use Rattle.std.specs.Prelude.{Bool, true, false, codes, decimal, if◌then◌else◌}
+use Rattle.std.specs.Str.Parse.{digits_value}
+use Rattle.term_index.specs.Commands.{Command, build, search, ask, tree, generate, words_of, IsAllowed, IsCommand, IfCommand}
+use Rattle.term_index.proofs.Forms.{has_name, decimal_back}
 
--- the first byte of the first word
-first : List (List ℕ) → ℕ
-first words = get_or (get_or words 0 []) 0 0
+word : ℕ → List (List ℕ) → List ℕ
+word place words = get_or words place []
 
-three : (a b c d e f g h : List ℕ) → a ∷ b ∷ c ∷ d ∷ [] ≡ e ∷ f ∷ g ∷ h ∷ [] → search b c d ≡ search f g h
-three a b c d e f g h is = cc
+number : ℕ → List (List ℕ) → ℕ
+number place words = digits_value 10 (get_or words place [])
 
-two : (a b c d e f : List ℕ) → a ∷ b ∷ c ∷ [] ≡ d ∷ e ∷ f ∷ [] → ask b c ≡ ask e f
-two a b c d e f is = cc
+-- the command of which the words are those
+read_back : List (List ℕ) → Command
+read_back words =
+    if has_name (codes "build") words then build (word 1 words) (number 2 words)
+    else (if has_name (codes "search") words then search (word 1 words) (word 2 words) (word 3 words)
+    else (if has_name (codes "ask") words then ask (word 1 words) (word 2 words)
+    else (if has_name (codes "tree") words then tree (word 1 words)
+    else generate (number 1 words) (number 2 words))))
 
-second : (a b c d e f : List ℕ) → a ∷ b ∷ c ∷ [] ≡ d ∷ e ∷ f ∷ [] → b ≡ e
-second a b c d e f is = cc
-
-third : (a b c d e f : List ℕ) → a ∷ b ∷ c ∷ [] ≡ d ∷ e ∷ f ∷ [] → c ≡ f
-third a b c d e f is = cc
-
-one : (a b c d : List ℕ) → a ∷ b ∷ [] ≡ c ∷ d ∷ [] → tree b ≡ tree d
-one a b c d is = cc
-
-same_build : (path other : List ℕ) (pages more : ℕ) → path ≡ other → pages ≡ more → build path pages ≡ build other more
-same_build path other pages more a b = cc
-
-same_generate : (seed other count more : ℕ) → seed ≡ other → count ≡ more → generate seed count ≡ generate other more
-same_generate seed other count more a b = cc
+back : (command : Command) → IsAllowed command → read_back (words_of command) ≡ command
+unfolding read_back word number
+back (build path pages) allowed = ap (build path) (decimal_back pages (omega (arith, allowed.2)))
+back (search path field query) allowed = refl
+back (ask field query) allowed = refl
+back (tree query) allowed = refl
+back (generate seed count) allowed =
+    ap (λ n. generate n (digits_value 10 (decimal count))) (decimal_back seed allowed.0) ∙ ap (generate seed) (decimal_back count (omega (arith, allowed.1)))
 
 pub one_command : (words : List (List ℕ)) (a b : Command) → IsCommand words a → IsCommand words b → a ≡ b
-unfolding first
-one_command words (build path pages) (build path_2 pages_2) a b = same_build path path_2 pages pages_2 (second _ _ _ _ _ _ (sym a.0 ∙ b.0)) (decimal_once pages pages_2 (decimal pages) (omega (arith, a.3)) (omega (arith, b.3)) refl (third _ _ _ _ _ _ (sym a.0 ∙ b.0)))
-one_command words (build path pages) (search path_2 field_2 query_2) a b = (let e : 98 ≡ 115 = ap first (sym a.0 ∙ b.0) in absurd (omega (arith, e)))
-one_command words (build path pages) (ask field_2 query_2) a b = (let e : 98 ≡ 97 = ap first (sym a.0 ∙ b) in absurd (omega (arith, e)))
-one_command words (build path pages) (tree query_2) a b = (let e : 98 ≡ 116 = ap first (sym a.0 ∙ b) in absurd (omega (arith, e)))
-one_command words (build path pages) (generate seed_2 count_2) a b = (let e : 98 ≡ 103 = ap first (sym a.0 ∙ b.0) in absurd (omega (arith, e)))
-one_command words (search path field query) (build path_2 pages_2) a b = (let e : 115 ≡ 98 = ap first (sym a.0 ∙ b.0) in absurd (omega (arith, e)))
-one_command words (search path field query) (search path_2 field_2 query_2) a b = three _ _ _ _ _ _ _ _ (sym a.0 ∙ b.0)
-one_command words (search path field query) (ask field_2 query_2) a b = (let e : 115 ≡ 97 = ap first (sym a.0 ∙ b) in absurd (omega (arith, e)))
-one_command words (search path field query) (tree query_2) a b = (let e : 115 ≡ 116 = ap first (sym a.0 ∙ b) in absurd (omega (arith, e)))
-one_command words (search path field query) (generate seed_2 count_2) a b = (let e : 115 ≡ 103 = ap first (sym a.0 ∙ b.0) in absurd (omega (arith, e)))
-one_command words (ask field query) (build path_2 pages_2) a b = (let e : 97 ≡ 98 = ap first (sym a ∙ b.0) in absurd (omega (arith, e)))
-one_command words (ask field query) (search path_2 field_2 query_2) a b = (let e : 97 ≡ 115 = ap first (sym a ∙ b.0) in absurd (omega (arith, e)))
-one_command words (ask field query) (ask field_2 query_2) a b = two _ _ _ _ _ _ (sym a ∙ b)
-one_command words (ask field query) (tree query_2) a b = (let e : 97 ≡ 116 = ap first (sym a ∙ b) in absurd (omega (arith, e)))
-one_command words (ask field query) (generate seed_2 count_2) a b = (let e : 97 ≡ 103 = ap first (sym a ∙ b.0) in absurd (omega (arith, e)))
-one_command words (tree query) (build path_2 pages_2) a b = (let e : 116 ≡ 98 = ap first (sym a ∙ b.0) in absurd (omega (arith, e)))
-one_command words (tree query) (search path_2 field_2 query_2) a b = (let e : 116 ≡ 115 = ap first (sym a ∙ b.0) in absurd (omega (arith, e)))
-one_command words (tree query) (ask field_2 query_2) a b = (let e : 116 ≡ 97 = ap first (sym a ∙ b) in absurd (omega (arith, e)))
-one_command words (tree query) (tree query_2) a b = one _ _ _ _ (sym a ∙ b)
-one_command words (tree query) (generate seed_2 count_2) a b = (let e : 116 ≡ 103 = ap first (sym a ∙ b.0) in absurd (omega (arith, e)))
-one_command words (generate seed count) (build path_2 pages_2) a b = (let e : 103 ≡ 98 = ap first (sym a.0 ∙ b.0) in absurd (omega (arith, e)))
-one_command words (generate seed count) (search path_2 field_2 query_2) a b = (let e : 103 ≡ 115 = ap first (sym a.0 ∙ b.0) in absurd (omega (arith, e)))
-one_command words (generate seed count) (ask field_2 query_2) a b = (let e : 103 ≡ 97 = ap first (sym a.0 ∙ b) in absurd (omega (arith, e)))
-one_command words (generate seed count) (tree query_2) a b = (let e : 103 ≡ 116 = ap first (sym a.0 ∙ b) in absurd (omega (arith, e)))
-one_command words (generate seed count) (generate seed_2 count_2) a b = same_generate seed seed_2 count count_2 (decimal_once seed seed_2 (decimal seed) a.1 b.1 refl (second _ _ _ _ _ _ (sym a.0 ∙ b.0))) (decimal_once count count_2 (decimal count) (omega (arith, a.2)) (omega (arith, b.2)) refl (third _ _ _ _ _ _ (sym a.0 ∙ b.0)))
+one_command words a b is_a is_b =
+    sym (back a is_a.allowed) ∙ ap read_back (sym is_a.spelled ∙ is_b.spelled) ∙ back b is_b.allowed
 
-pub within_limits : (words : List (List ℕ)) (command : Command) → IsCommand words command → IsWithinLimits command
-within_limits words (build path pages) is = (is.2, is.3)
-within_limits words (search path field query) is = tt
-within_limits words (ask field query) is = tt
-within_limits words (tree query) is = tt
-within_limits words (generate seed count) is = tt
+-- what holds of the command that was read holds of the command that the words are
+pub of_words : (words : List (List ℕ)) (read : Command) (P : Command → Type 0) → IsCommand words read → P read → IfCommand words P
+of_words words read P is holds command other = subst P (one_command words read command is other) holds
 
--- what holds of a command that is a search holds of the search that the words are
-pub of_search : (words : List (List ℕ)) (P : List ℕ → List ℕ → Type 0) (command : Command) (path field query : List ℕ) → IsCommand words command → IsCommand words (search path field query) → OfSearch command P → P field query
-of_search words P command path field query is other holds =
-    subst (λ (c : Command). OfSearch c P) (one_command words command (search path field query) is other) holds
+-- a test that fails, where it does not hold
+pub unless : (test : Bool) (P : Type 0) → (test ≡ false → P) → ¬ (test ≡ true) → P
+unless true P holds none = absurd (none refl)
+unless false P holds none = holds refl

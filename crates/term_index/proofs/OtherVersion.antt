@@ -6,11 +6,12 @@ use Rattle.std.proofs.lemmas.Bool.{leb-true, leb-false}
 use Rattle.std.proofs.lemmas.List.{take_all}
 use Rattle.owned_bytes.specs.Front.{◌>>=◌, provided, number_at, bytes_at}
 use Rattle.owned_bytes.proofs.Pieces.{bind_some, some_is}
-use Rattle.tantivy_sstable.specs.Footer.{Footer}
-use Rattle.tantivy_sstable.specs.Index.{at_end}
-use Rattle.tantivy_sstable.specs.Opening.{version_of, is_known, is_waiting}
-use Rattle.tantivy_sstable.proofs.Ends.{number_at_end, footer_in}
-use Rattle.tantivy_sstable.proofs.OpeningLaws.{is_waiting-short, footer-found}
+use Rattle.sstable_format.specs.declared.footer.Footer.{Footer}
+use Rattle.sstable_format.specs.Index.{at_end}
+use Rattle.sstable_format.specs.Version.{version_of, is_known}
+use Rattle.sstable_format.specs.Refused.{is_waiting}
+use Rattle.sstable_format.proofs.Ends.{number_at_end, footer_in}
+use Rattle.sstable_format.proofs.Endings.{is_waiting-short, footer-found}
 use Rattle.index_file.specs.Header.{Header, packed_length, header_at}
 use Rattle.index_file.specs.Opening.{is_waiting_file}
 

@@ -5,12 +5,12 @@ use Rattle.std.specs.List.{All, AllByRecursion, list_all, cons_option, flat_map,
 use Rattle.std.proofs.lemmas.Bool.{lt-ltb, le-leb}
 use Rattle.std.proofs.lemmas.Bool.Decides.{eqb_tells}
 use Rattle.std.proofs.lemmas.List.Elements.{recursion_from_All}
-use Rattle.term_documents.specs.declared.documents.Pair.{Pair}
-use Rattle.term_documents.specs.declared.documents.Doc.{Doc}
-use Rattle.term_documents.specs.declared.faults.Fault.{Fault}
-use Rattle.term_documents.specs.declared.faults.Fault.TheVariants.{BadField, KeyTooLong}
-use Rattle.term_documents.specs.declared.faults.PlacedFault.{PlacedFault}
-use Rattle.term_documents.specs.Documents.{IsValidPair, AreValidDocuments, is_field, is_short, key_length, fault_of, faults_from, first_fault}
+use Rattle.documents.specs.declared.documents.Pair.{Pair}
+use Rattle.documents.specs.declared.documents.Doc.{Doc}
+use Rattle.documents.specs.declared.faults.Fault.{Fault}
+use Rattle.documents.specs.declared.faults.Fault.TheVariants.{BadField, KeyTooLong}
+use Rattle.documents.specs.declared.faults.PlacedFault.{PlacedFault}
+use Rattle.documents.specs.Documents.{IsValidPair, AreValidDocuments, is_field, is_short, key_length, fault_of, faults_from, first_fault}
 
 not_zero : (n : ℕ) → 0 < n → (n == 0) ≡ false
 not_zero n h = elim (eqb_tells n 0) [ inl zero_is ↦ absurd (omega (arith, zero_is.1, h)) | inr other ↦ other.0 ]

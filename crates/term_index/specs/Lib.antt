@@ -2,8 +2,12 @@ pub mod Commands
 pub mod Shown
 pub mod Outcomes
 pub mod Reading
-pub mod Refusals
+pub mod Source
+pub mod Giving
 pub mod Printing
+pub mod Build
+pub mod Search
+pub mod Ask
+pub mod Tree
 pub mod Running
-pub mod Ending
 pub mod Headline

@@ -1,7 +1,14 @@
--- The exit status of an outcome, and the line that is printed of it.
-use Rattle.std.specs.Prelude.{ℕ, List, [], ◌∷◌, ◌++◌, codes, decimal}
+-- Outcomes: the exit status of one, and the line that is printed of it.
+use Rattle.std.specs.Prelude.{◌≡◌, ◌⊎◌, ℕ, List, [], ◌∷◌, ◌++◌, codes, decimal}
 use Rattle.term_index.specs.declared.outcome.Outcome.{Outcome}
 use Rattle.term_index.specs.declared.outcome.Outcome.TheVariants.{Done, Usage, NotYet, InputTooLong, BadInput, TooManyDocuments, BadField, KeyTooLong, ArenaFull, Query, TooDeep, UnsupportedSlop, UnsupportedRegex, Version, Corrupt, Compressed, InFault, StoreFault, ReadFault, OutFault, Memory}
+
+-- the outcome is one of these
+abbrev pub IsAmong : List Outcome → Outcome → Type 0
+IsAmong [] outcome = ⊥
+IsAmong (one ∷ others) outcome = (outcome ≡ one) ⊎ IsAmong others outcome
+
+-- ---- as texts
 
 -- texts, one after the other
 abbrev pub joined : List (List ℕ) → List ℕ

@@ -16,9 +16,9 @@ lines (n ∷ ns) = decimal n ++ 10 ∷ lines ns
 abbrev pub tree_line : UserInputAst → List ℕ
 tree_line tree = json_text tree ++ codes "\n"
 
--- The text was appended, or at a fault of the output and for want of memory a prefix of it.
-abbrev pub Prints : Outcome → List ℕ → Option (List ℕ) → Option (List ℕ) → Type 0
-Prints Done text old new = Appends old new text
-Prints OutFault text old new = AppendsPrefix old new text
-Prints Memory text old new = AppendsPrefix old new text
-Prints _ text old new = ⊥
+-- The text was appended, or at a fault of the output and for want of memory a prefix of it. No other outcome comes.
+abbrev pub PrintsText : Outcome → List ℕ → Option (List ℕ) → Option (List ℕ) → Type 0
+PrintsText Done text old new = Appends old new text
+PrintsText OutFault text old new = AppendsPrefix old new text
+PrintsText Memory text old new = AppendsPrefix old new text
+PrintsText _ text old new = ⊥

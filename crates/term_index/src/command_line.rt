@@ -1,11 +1,15 @@
 // The commands, and the words that are one.
-ghost use Rattle.std.specs.Prelude.{◌≡◌, ◌≢◌, ◌<◌, ◌≤◌, ◌^◌, ◌∷◌, [], ℕ, List, codes, decimal, MatchOption, IsTrue, ◌↔◌, length};
-ghost use Rattle.term_index.specs.Commands.{IsCommand, IsNoCommand};
-ghost use Rattle.term_index.specs.Commands as commands;
-ghost use Rattle.term_index.specs.Shown.{shown};
+ghost use Rattle.std.specs.Prelude.{◌≡◌, ◌≢◌, ◌∷◌, [], ℕ, List, codes, decimal, IfNone, IfSome, IsTrue, ◌↔◌};
+ghost use Rattle.term_index.specs.Shown.{Parses, ParsesNumber};
 
 use crate::Word;
 use itoa::Buffer;
+
+/// The most pages that `build` takes.
+pub const MAX_PAGES: u32 = 4096;
+
+/// The most documents that `gen` makes.
+pub const MAX_COUNT: u64 = 100_000;
 
 /// What the words of a command line ask for.
 #[derive(Clone, Copy)]
@@ -32,6 +36,7 @@ pub enum Command<'a> {
     },
 }
 
+// The word is the number in decimal.
 fn is_text_of(number: u64, word: &str) -> bool
     ensures { IsTrue result ↔ (word.now ≡ decimal number) }
 {
@@ -39,9 +44,9 @@ fn is_text_of(number: u64, word: &str) -> bool
     word == buffer.format(number)
 }
 
-/// The number of which the word is the decimal text.
+// The number of which the word is the decimal text.
 fn number_of(word: &str) -> Option<u64>
-    ensures { MatchOption result ((n : ℕ) → n < 2 ^ 64 → word.now ≢ decimal n) (λ n. (word.now ≡ decimal n) × (n < 2 ^ 64)) }
+    ensures { ParsesNumber word.now result }
 {
     match word.parse::<u64>() {
         Ok(number) => {
@@ -55,8 +60,10 @@ fn number_of(word: &str) -> Option<u64>
     }
 }
 
+// The word, where there is one.
 fn one_word(words: &[Word]) -> Option<&str>
-    ensures { MatchOption result ((a : List ℕ) → words.now ≢ a ∷ []) (λ word. words.now ≡ word.now ∷ []) }
+    ensures none { IfNone result ((a : List ℕ) → words.now ≢ a ∷ []) }
+    ensures some { IfSome result (λ word. words.now ≡ word.now ∷ []) }
 {
     match words {
         [word] => Some(word.as_str()),
@@ -64,8 +71,10 @@ fn one_word(words: &[Word]) -> Option<&str>
     }
 }
 
+// The words, where there are two.
 fn two_words(words: &[Word]) -> Option<(&str, &str)>
-    ensures { MatchOption result ((a b : List ℕ) → words.now ≢ a ∷ b ∷ []) (λ parts. words.now ≡ parts.0.now ∷ parts.1.now ∷ []) }
+    ensures none { IfNone result ((a b : List ℕ) → words.now ≢ a ∷ b ∷ []) }
+    ensures some { IfSome result (λ parts. words.now ≡ parts.0.now ∷ parts.1.now ∷ []) }
 {
     match words {
         [first, second] => Some((first.as_str(), second.as_str())),
@@ -73,9 +82,10 @@ fn two_words(words: &[Word]) -> Option<(&str, &str)>
     }
 }
 
+// The words, where there are three.
 fn three_words(words: &[Word]) -> Option<(&str, &str, &str)>
-    ensures { MatchOption result ((a b c : List ℕ) → words.now ≢ a ∷ b ∷ c ∷ [])
-        (λ parts. words.now ≡ parts.0.now ∷ parts.1.now ∷ parts.2.now ∷ []) }
+    ensures none { IfNone result ((a b c : List ℕ) → words.now ≢ a ∷ b ∷ c ∷ []) }
+    ensures some { IfSome result (λ parts. words.now ≡ parts.0.now ∷ parts.1.now ∷ parts.2.now ∷ []) }
 {
     match words {
         [first, second, third] => Some((first.as_str(), second.as_str(), third.as_str())),
@@ -83,8 +93,9 @@ fn three_words(words: &[Word]) -> Option<(&str, &str, &str)>
     }
 }
 
+// `build PATH PAGES`, behind its first word.
 fn build_of(rest: &[Word]) -> Option<Command<'_>>
-    ensures { MatchOption result (IsNoCommand (codes "build" ∷ rest.now)) (λ c. IsCommand (codes "build" ∷ rest.now) (shown c)) }
+    ensures { Parses (codes "build" ∷ rest.now) result }
 {
     let Some((path, pages)) = two_words(rest) else {
         return None;
@@ -98,7 +109,7 @@ fn build_of(rest: &[Word]) -> Option<Command<'_>>
     if pages == 0 {
         return None;
     }
-    if pages > 4096 {
+    if pages > MAX_PAGES as u64 {
         return None;
     }
     Some(Command::Build {
@@ -107,8 +118,9 @@ fn build_of(rest: &[Word]) -> Option<Command<'_>>
     })
 }
 
+// `search PATH FIELD QUERY`, behind its first word.
 fn search_of(rest: &[Word]) -> Option<Command<'_>>
-    ensures { MatchOption result (IsNoCommand (codes "search" ∷ rest.now)) (λ c. IsCommand (codes "search" ∷ rest.now) (shown c)) }
+    ensures { Parses (codes "search" ∷ rest.now) result }
 {
     match three_words(rest) {
         Some((path, field, query)) if !path.is_empty() => Some(Command::Search {
@@ -120,8 +132,9 @@ fn search_of(rest: &[Word]) -> Option<Command<'_>>
     }
 }
 
+// `ask FIELD QUERY`, behind its first word.
 fn ask_of(rest: &[Word]) -> Option<Command<'_>>
-    ensures { MatchOption result (IsNoCommand (codes "ask" ∷ rest.now)) (λ c. IsCommand (codes "ask" ∷ rest.now) (shown c)) }
+    ensures { Parses (codes "ask" ∷ rest.now) result }
 {
     match two_words(rest) {
         Some((field, query)) => Some(Command::Ask { field, query }),
@@ -129,8 +142,9 @@ fn ask_of(rest: &[Word]) -> Option<Command<'_>>
     }
 }
 
+// `tree QUERY`, behind its first word.
 fn tree_of(rest: &[Word]) -> Option<Command<'_>>
-    ensures { MatchOption result (IsNoCommand (codes "tree" ∷ rest.now)) (λ c. IsCommand (codes "tree" ∷ rest.now) (shown c)) }
+    ensures { Parses (codes "tree" ∷ rest.now) result }
 {
     match one_word(rest) {
         Some(query) => Some(Command::Tree { query }),
@@ -138,8 +152,9 @@ fn tree_of(rest: &[Word]) -> Option<Command<'_>>
     }
 }
 
+// `gen SEED COUNT`, behind its first word.
 fn generate_of(rest: &[Word]) -> Option<Command<'_>>
-    ensures { MatchOption result (IsNoCommand (codes "gen" ∷ rest.now)) (λ c. IsCommand (codes "gen" ∷ rest.now) (shown c)) }
+    ensures { Parses (codes "gen" ∷ rest.now) result }
 {
     let Some((seed, count)) = two_words(rest) else {
         return None;
@@ -150,14 +165,15 @@ fn generate_of(rest: &[Word]) -> Option<Command<'_>>
     let Some(count) = number_of(count) else {
         return None;
     };
-    if count > 100_000 {
+    if count > MAX_COUNT {
         return None;
     }
     Some(Command::Generate { seed, count })
 }
 
+// The command of this name, with the words behind it.
 fn named<'a>(name: &str, rest: &'a [Word]) -> Option<Command<'a>>
-    ensures { MatchOption result (IsNoCommand (name.now ∷ rest.now)) (λ c. IsCommand (name.now ∷ rest.now) (shown c)) }
+    ensures { Parses (name.now ∷ rest.now) result }
 {
     if name == "build" {
         build_of(rest)
@@ -176,7 +192,7 @@ fn named<'a>(name: &str, rest: &'a [Word]) -> Option<Command<'a>>
 
 /// The command whose form the words are.
 pub fn command_of(words: &[Word]) -> Option<Command<'_>>
-    ensures { MatchOption result (IsNoCommand words.now) (λ c. IsCommand words.now (shown c)) }
+    ensures { Parses words.now result }
 {
     match words {
         [name, rest @ ..] => named(name.as_str(), rest),

@@ -1,23 +1,20 @@
 //! The command line over documents and their index.
 #![tactic(auto)]
 
-mod asking;
-mod building;
-mod command;
 mod command_line;
+mod commands;
 mod input;
 mod loading;
 mod opening;
 mod outcome;
 mod printing;
 mod reading;
-mod searching;
-mod showing;
+mod running;
 mod words;
 
-pub use command::run;
-pub use input::{InputError, read_input};
+pub use input::{INPUT_LIMIT, InputError, read_input};
 pub use opening::{Opening, opening_of};
 pub use outcome::Outcome;
 pub use reading::{DocumentsError, read_documents};
+pub use running::run;
 pub use words::Word;

@@ -1,23 +1,22 @@
 // The documents of a source.
-ghost use Rattle.std.specs.Prelude.{◌≡◌, ◌≤◌, IfOk, IfErr, OnOk, Err};
-ghost use Rattle.std.specs.Io.KnownBytes.{IsAtEnd};
-ghost use Rattle.owned_bytes.specs.Outside.{HasCause};
-ghost use Rattle.term_index.specs.Refusals.{Tells, Unread, TakenPast, input_limit};
+ghost use Rattle.std.specs.Prelude.{◌≡◌, ◌+◌, IfOk, IfErr, OnOk, Err};
+ghost use Rattle.owned_bytes.specs.Outside.{HasCause, RisesAtMost};
+ghost use Rattle.term_index.specs.Source.{Tells, Unread, IsReadWhole, TakenPast};
 
+use crate::input::INPUT_LIMIT;
 use crate::{DocumentsError, InputError, Outcome, read_documents, read_input};
+use documents::Doc;
 use owned_bytes::Source;
 use std::alloc::Global;
-use term_documents::Doc;
 
 /// The documents of a source, which is read to its end, or how the command ends.
 pub fn load<S: Source>(alloc: Global, source: &mut S) -> Result<Vec<Doc>, Outcome>
     ensures told { IfOk result (λ docs. Tells (S.left source.old) docs.items) }
-    ensures end { OnOk result (IsAtEnd (S.left source.new)) }
+    ensures end { OnOk result (IsReadWhole (S.left source.old) (S.left source.new)) }
     ensures unread { IfErr result (λ outcome. Unread outcome (S.left source.old)) }
     ensures cause { HasCause (S.faults source.old) (S.faults source.new) (result ≡ Err Outcome.InFault) }
-    ensures taken { S.taken source.old ≤ S.taken source.new }
-    ensures too_long { result ≡ Err Outcome.InputTooLong
-        → TakenPast input_limit (S.taken source.old) (S.taken source.new) }
+    ensures taken { RisesAtMost (S.taken source.old) (S.taken source.new) (INPUT_LIMIT + 1) }
+    ensures too_long { result ≡ Err Outcome.InputTooLong → TakenPast INPUT_LIMIT (S.taken source.old) (S.taken source.new) }
 {
     let bytes = match read_input(alloc, source) {
         Ok(bytes) => bytes,

@@ -86,7 +86,7 @@ impl Outcome {
         }
     }
 
-    /// The line of an outcome that has no numbers.
+    // The line of an outcome that has no numbers.
     fn fixed_line(&self) -> &'static str
         requires { HasNoNumbers self.now }
         ensures { result.now ≡ line_of self.now }
@@ -113,7 +113,7 @@ impl Outcome {
     }
 }
 
-/// Writes a line of a text and a number.
+// Writes a line of a text and a number.
 fn write_numbered<P: Sink>(sink: &mut P, front: &str, number: u64) -> Result<(), SinkError>
     ensures bytes { WritesAll (P.written sink.old) (P.written sink.new) result (numbered_line front.now number) }
     ensures cause { HasCause (P.faults sink.old) (P.faults sink.new) (result ≡ Err SinkError.Failed) }
@@ -122,7 +122,7 @@ fn write_numbered<P: Sink>(sink: &mut P, front: &str, number: u64) -> Result<(),
     write_parts(sink, &[front, buffer.format(number), "\n"])
 }
 
-/// Writes a line of a text, the number of a document and that of a pair in it.
+// Writes a line of a text, the number of a document and that of a pair in it.
 fn write_placed<P: Sink>(sink: &mut P, front: &str, doc: u64, pair: u64) -> Result<(), SinkError>
     ensures bytes { WritesAll (P.written sink.old) (P.written sink.new) result (placed_line front.now doc pair) }
     ensures cause { HasCause (P.faults sink.old) (P.faults sink.new) (result ≡ Err SinkError.Failed) }
@@ -135,7 +135,7 @@ fn write_placed<P: Sink>(sink: &mut P, front: &str, doc: u64, pair: u64) -> Resu
     )
 }
 
-/// Writes texts, one after the other.
+// Writes texts, one after the other.
 fn write_parts<P: Sink>(sink: &mut P, parts: &[&str]) -> Result<(), SinkError>
     ensures bytes { WritesAll (P.written sink.old) (P.written sink.new) result (joined (map (λ part. part.now) parts.now)) }
     ensures cause { HasCause (P.faults sink.old) (P.faults sink.new) (result ≡ Err SinkError.Failed) }

@@ -1,12 +1,13 @@
 // Documents from JSON.
 ghost use Rattle.std.specs.Prelude.{◌≡◌, ◌++◌, ◌∷◌, [], Some, None, IfOk, IfErr, OnOk, map, string_bytes};
 ghost use Rattle.serde_json.specs.View.{view, members_view};
-ghost use Rattle.term_index.specs.Reading.{both, gathered, entries, pair_of_text, pairs_of_member, doc_of, docs_of_value, docs_of};
+ghost use Rattle.term_index.specs.Reading.{both, gathered, pair_of_text, pairs_of_texts, pairs_of_member, pairs_of_members};
+ghost use Rattle.term_index.specs.Reading.{doc_of, docs_of_value, docs_of};
 
+use documents::{Doc, Pair, Pairs};
 use owned_bytes::Text;
 use serde_json::{Map, Value};
 use std::alloc::{AllocError, Global};
-use term_documents::{Doc, Pair, Pairs};
 use thiserror::Error;
 
 /// Why there are no documents.
@@ -37,6 +38,7 @@ pub fn read_documents(alloc: Global, bytes: &[u8]) -> Result<Vec<Doc>, Documents
     docs_of_value(alloc, value)
 }
 
+// The documents of a value.
 fn docs_of_value(alloc: Global, value: Value) -> Result<Vec<Doc>, DocumentsError>
     ensures ok { IfOk result (λ docs. docs_of_value (view value) ≡ Some docs.items) }
     ensures bad { IfErr result (λ e. e ≡ DocumentsError.Bad → docs_of_value (view value) ≡ None) }
@@ -47,6 +49,7 @@ fn docs_of_value(alloc: Global, value: Value) -> Result<Vec<Doc>, DocumentsError
     }
 }
 
+// The documents of objects.
 fn read_docs(alloc: Global, objects: Vec<Value>) -> Result<Vec<Doc>, DocumentsError>
     ensures ok { IfOk result (λ docs. gathered doc_of (map view objects.items) ≡ Some docs.items) }
     ensures bad { IfErr result (λ e. e ≡ DocumentsError.Bad → gathered doc_of (map view objects.items) ≡ None) }
@@ -63,6 +66,7 @@ fn read_docs(alloc: Global, objects: Vec<Value>) -> Result<Vec<Doc>, DocumentsEr
     Ok(docs)
 }
 
+// The document of an object.
 fn read_doc(alloc: Global, object: Value) -> Result<Doc, DocumentsError>
     ensures ok { IfOk result (λ doc. doc_of (view object) ≡ Some (doc ∷ [])) }
     ensures bad { IfErr result (λ e. e ≡ DocumentsError.Bad → doc_of (view object) ≡ None) }
@@ -76,9 +80,10 @@ fn read_doc(alloc: Global, object: Value) -> Result<Doc, DocumentsError>
     }
 }
 
+// The pairs of the members of an object.
 fn read_members(alloc: Global, members: Map<String, Value>) -> Result<Pairs, DocumentsError>
-    ensures ok { IfOk result (λ pairs. gathered (λ m. pairs_of_member m.0 m.1) (entries (members_view members.entries)) ≡ Some pairs) }
-    ensures bad { IfErr result (λ e. e ≡ DocumentsError.Bad → gathered (λ m. pairs_of_member m.0 m.1) (entries (members_view members.entries)) ≡ None) }
+    ensures ok { IfOk result (λ pairs. pairs_of_members (members_view members.entries) ≡ Some pairs) }
+    ensures bad { IfErr result (λ e. e ≡ DocumentsError.Bad → pairs_of_members (members_view members.entries) ≡ None) }
 {
     let mut pairs = Pairs::new(alloc);
     for (name, value) in members {
@@ -87,7 +92,7 @@ fn read_members(alloc: Global, members: Map<String, Value>) -> Result<Pairs, Doc
     Ok(pairs)
 }
 
-/// Appends the pairs of a member.
+// Appends the pairs of a member.
 fn read_member(
     alloc: Global,
     name: String,
@@ -104,14 +109,15 @@ fn read_member(
     }
 }
 
+// Appends the pairs of texts.
 fn read_texts(
     alloc: Global,
     name: &str,
     texts: Vec<Value>,
     pairs: &mut Pairs,
 ) -> Result<(), DocumentsError>
-    ensures ok { OnOk result (both (Some pairs.old) (gathered (pair_of_text name.now) (map view texts.items)) ≡ Some pairs.new) }
-    ensures bad { IfErr result (λ e. e ≡ DocumentsError.Bad → gathered (pair_of_text name.now) (map view texts.items) ≡ None) }
+    ensures ok { OnOk result (both (Some pairs.old) (pairs_of_texts name.now (map view texts.items)) ≡ Some pairs.new) }
+    ensures bad { IfErr result (λ e. e ≡ DocumentsError.Bad → pairs_of_texts name.now (map view texts.items) ≡ None) }
 {
     for text in texts {
         read_text(alloc, name, text, pairs)?;
@@ -119,6 +125,7 @@ fn read_texts(
     Ok(())
 }
 
+// Appends the pair of a text.
 fn read_text(
     alloc: Global,
     name: &str,
@@ -137,6 +144,7 @@ fn read_text(
     }
 }
 
+// Appends a pair.
 fn push_pair(field: Text, term: Text, pairs: &mut Pairs) -> Result<(), DocumentsError>
     ensures ok { OnOk result (pairs.new ≡ pairs.old ++ record { field = field; term = term } ∷ []) }
     ensures kind { IfErr result (λ e. e ≡ DocumentsError.Memory) }

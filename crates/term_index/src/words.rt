@@ -20,6 +20,7 @@ impl Model for Word {
 }
 
 impl Word {
+    /// A copy of the text.
     pub fn new(alloc: Global, text: &str) -> Result<Word, AllocError>
         ensures { IfOk result (λ word. word ≡ text.now) }
     {
@@ -28,6 +29,7 @@ impl Word {
         })
     }
 
+    /// The word as a text.
     pub fn as_str(&self) -> &str
         ensures { result.now ≡ self.now }
     {

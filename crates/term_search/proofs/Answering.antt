@@ -2,41 +2,47 @@
 use Rattle.std.proofs.Common.{◌≡◌, ◌∙◌, sym, ap, subst, refl, ℕ, ◌+◌, ◌*◌, ◌≤◌, Bool, true, false, List, [], ◌∷◌, length, Option, Some, None, Ok, Err, arith, filter, map, length-append}
 use Rattle.std.specs.Prelude.{unwrap_or, bytes_eq, suc}
 use Rattle.std.specs.List.{flat_map}
-use Rattle.owned_bytes.specs.Outside.{RisesAtMost}
+use Rattle.std.specs.Str.{IsUtf8}
+use Rattle.owned_bytes.specs.Outside.{FileState}
+use Rattle.common_bitset.specs.Numbers.{rising}
+use Rattle.common_bitset.specs.Subset.{Subset}
+use Rattle.query_tree.specs.declared.answer.ParseError.TheVariants as parse
 use Rattle.query_tree.specs.declared.tree.UserInputLeaf.{UserInputLeaf}
 use Rattle.query_tree.specs.declared.tree.UserInputLeaf.TheVariants as leaf
-use Rattle.term_documents.specs.Documents.{is_field}
-use Rattle.index_file.specs.Search.{asked, units, lookups_of, leaves_of}
-use Rattle.term_search.specs.declared.answer.SearchError.{SearchError}
-use Rattle.term_search.specs.declared.answer.SearchError.TheVariants.{Memory, Query, TooDeep, Unsupported, NotYet, Version, Corrupt, Compressed, Read}
-use Rattle.std.specs.Str.{IsUtf8}
-use Rattle.common_bitset.specs.Numbers.{Numbers, rising}
-use Rattle.query_tree.specs.declared.answer.ParseError.TheVariants as parse
 use Rattle.query_tree.specs.declared.tree.UserInputAst.{UserInputAst}
 use Rattle.query_tree.specs.Answer as grammar
-use Rattle.query_tree.specs.Answer.{Answer, tree_of}
-use Rattle.term_documents.specs.Postings.{gather}
-use Rattle.term_documents.specs.Satisfies.{satisfies, Lookup, lookups_of_leaf}
-use Rattle.term_documents.proofs.PrintedLaw.{numbers_mean, printed_is_read}
+use Rattle.query_tree.specs.Answer.{tree_of}
+use Rattle.documents.specs.Documents.{is_field}
+use Rattle.documents.specs.Postings.{gather}
+use Rattle.printed_queries.specs.Satisfies.{satisfies}
+use Rattle.printed_queries.specs.Lookups.{Lookup, lookups_of_leaf}
+use Rattle.printed_queries.proofs.PrintedLaw.{numbers_mean, printed_is_read}
 use Rattle.index_reading.specs.declared.open.OpenIndex.{OpenIndex}
 use Rattle.index_reading.specs.Opened.{postings_told}
 use Rattle.index_reading.specs.Opening.{OpensTold}
+use Rattle.term_search.specs.Search.{asked, units, lookups_of, leaves_of}
+use Rattle.term_search.specs.declared.answer.SearchError.{SearchError}
+use Rattle.term_search.specs.declared.answer.SearchError.TheVariants.{Memory, Query, TooDeep, Unsupported, NotYet, Version, Corrupt, Compressed, Read}
 use Rattle.term_search.specs.Members.{Finds}
-use Rattle.term_search.specs.Searching.{FindsNumbersTold, ReadsQuery, IsSearched, AnswersExpression, AnswersTold, ReadsWithin}
+use Rattle.term_search.specs.Searching.{FindsNumbersTold, ReadsQuery, ReadsFor, IsSearched, AnswersExpression, AnswersTold}
 use Rattle.term_search.proofs.Leaf.{told_documents, gathered_documents}
 use Rattle.term_search.proofs.Posted.{rising_those}
 
-pub found_numbers_told : (before now : Option (List ℕ)) (index : OpenIndex) (tree : UserInputAst) (default : List ℕ) (documents : ℕ) (elements : Numbers) (ids : List ℕ)
-    → OpensTold before (Ok index) → now ≡ before → Finds (postings_told index now) (λ doc. satisfies doc tree default) elements → documents ≡ index.documents → ids ≡ rising documents elements
-    → FindsNumbersTold before tree default (Ok ids)
-found_numbers_told None now index tree default documents elements ids opens same finds over is = tt
-found_numbers_told (Some file) now index tree default documents elements ids opens same finds over is = (
-  opens.readable,
-  λ docs indexed.
-      let told : postings_told index now ≡ Some (gather docs) = ap (postings_told index) same ∙ opens.postings ∙ indexed.table in
-      let many : documents ≡ length docs = over ∙ sym (told_documents now index (gather docs) told) ∙ gathered_documents docs in
-      is ∙ ap (λ n. rising n elements) many ∙ rising_those docs (λ doc. satisfies doc tree default) elements (finds.those docs indexed.valid told),
-)
+pub found_numbers_told : (before now : FileState) (index : OpenIndex) (tree : UserInputAst) (default : List ℕ) (found : Subset) (ids : List ℕ)
+    → OpensTold before.contents (Ok index) → now.contents ≡ before.contents → Finds index now (λ doc. satisfies doc tree default) found → ids ≡ rising found.max_value found.elements
+    → FindsNumbersTold before.contents tree default (Ok ids)
+found_numbers_told before now index tree default found ids opens same finds is = by before.contents opens same
+  where
+    by : (contents : Option (List ℕ)) → OpensTold contents (Ok index) → now.contents ≡ contents → FindsNumbersTold contents tree default (Ok ids)
+    by None opens same = tt
+    by (Some file) opens same = (
+      opens.readable,
+      λ docs indexed.
+          let told : postings_told index now.contents ≡ Some (gather docs) = ap (postings_told index) same ∙ opens.postings ∙ indexed.table in
+          let many : found.max_value ≡ length docs = finds.over ∙ sym (told_documents now.contents index (gather docs) told) ∙ gathered_documents docs in
+          is ∙ ap (λ n. rising n found.elements) many
+          ∙ rising_those docs (λ doc. satisfies doc tree default) found.elements (finds.those docs (record { valid = indexed.valid; told = told })),
+    )
 
 -- ---- the whole answer
 
@@ -99,6 +105,8 @@ asked-units tree default = omega (arith, filter-le (λ (wanted : Lookup). is_fie
 pub same_tree : (query : List ℕ) (a b : UserInputAst) → tree_of query ≡ grammar.Tree a → tree_of query ≡ grammar.Tree b → a ≡ b
 same_tree query a b h k = (let e : grammar.Tree a ≡ grammar.Tree b = sym h ∙ k in cc)
 
-pub reads_units : (query default : List ℕ) (tree : UserInputAst) (before now : ℕ) → IsSearched query tree → RisesAtMost before now (4 + 2 * length (asked tree default)) → ReadsWithin query before now
-reads_units query default tree before now searched rises = λ other is.
-    subst (λ t. now ≤ before + (4 + 2 * units t)) (same_tree query tree other searched.taken.tree_is is) (omega (arith, rises.bound, asked-units tree default))
+pub reads_for : (query default : List ℕ) (tree : UserInputAst) (before now : FileState) → IsSearched query tree → now.reads ≤ before.reads + (4 + 2 * length (asked tree default)) → ReadsFor query default before now
+reads_for query default tree before now searched reads = record {
+  asked = λ other is. subst (λ t. now.reads ≤ before.reads + (4 + 2 * length (asked t default))) (same_tree query tree other searched.taken.tree_is is) reads;
+  within = λ other is. subst (λ t. now.reads ≤ before.reads + (4 + 2 * units t)) (same_tree query tree other searched.taken.tree_is is) (omega (arith, reads, asked-units tree default));
+}

@@ -10,7 +10,7 @@ use Rattle.common_bitset.specs.Laws.Sets.{contains_below, contains_union, contai
 use Rattle.document_sets.specs.Joined.{Joined, met, united, chosen, joined_elements}
 use Rattle.query_tree.specs.declared.tree.Occur.{Occur}
 use Rattle.query_tree.specs.declared.tree.Occur.TheVariants.{Should, Must, MustNot}
-use Rattle.term_documents.specs.Satisfies.{satisfies_clause, satisfies_mixed, answers, is_must, is_must_not, is_optional, all, any}
+use Rattle.printed_queries.specs.Satisfies.{satisfies_clause, satisfies_mixed, answers, is_must, is_must_not, is_optional, all, any}
 use Rattle.term_search.specs.Members.{Marks, marks_at, marks_from, marks_of, and_then, or_else, with_mark, all_if_any, any_if_any}
 
 -- ---- one set more

@@ -4,20 +4,21 @@ use Rattle.std.specs.Prelude.{unwrap_or, option_map, sum}
 use Rattle.std.specs.declared.ops.Range.{Range}
 use Rattle.owned_bytes.specs.Front.{◌>>=◌}
 use Rattle.owned_bytes.proofs.Pieces.{bind_some, some_is}
-use Rattle.sstable_blocks.specs.Codec.{range}
-use Rattle.tantivy_sstable.specs.Index.{Index, index_of_version}
-use Rattle.tantivy_sstable.specs.Table.{Parts, Sst, parts_of, blocks_under, whole_sst_of, sst_of}
+use Rattle.sstable_values.specs.Codec.{range}
+use Rattle.sstable_format.specs.Index.{Index, index_of_version}
+use Rattle.sstable_format.specs.Table.{Parts, Sst, parts_of, blocks_under, whole_sst_of, sst_of}
 use Rattle.tantivy_sstable.specs.Opened.{blocks_told}
-use Rattle.tantivy_sstable.specs.Opening.{table_blocks, index_part_of}
+use Rattle.sstable_format.specs.Table.{table_blocks, index_part_of}
 use Rattle.query_tree.specs.declared.tree.UserInputAst.{UserInputAst}
-use Rattle.term_documents.specs.Postings.{Postings}
+use Rattle.documents.specs.Postings.{Postings}
 use Rattle.index_file.specs.Header.{Header, header_at, width_of}
 use Rattle.index_file.specs.IndexFile.{table_of, postings_of}
-use Rattle.index_file.specs.Search.{lookups_of, lookup_cost, cost}
+use Rattle.term_search.specs.Search.{lookups_of, lookup_cost, cost}
 use Rattle.index_reading.specs.declared.open.OpenIndex.{OpenIndex}
 use Rattle.index_reading.specs.Opened.{postings_told}
 use Rattle.index_reading.specs.Opening.{OpensTold, HasOpened, FetchesOpening, blocks_of, index_part_in}
-use Rattle.term_search.specs.Members.{FetchesFor, lookups_cost}
+use Rattle.owned_bytes.specs.Outside.{FileState}
+use Rattle.term_search.specs.Members.{IsAsked, lookups_cost}
 use Rattle.term_search.specs.Searching.{IsSearched, Fetches, FetchesTree}
 use Rattle.term_search.proofs.Leaf.{told_documents, postings_are}
 use Rattle.term_search.proofs.Answering.{same_tree}
@@ -75,46 +76,36 @@ there None some = absurd (some refl)
 there (Some x) some = (x, refl)
 
 -- the told index has the blocks and the postings that the cost is counted by
-lookups-covered : (file : List ℕ) (later : Option (List ℕ)) (index : OpenIndex) (tree : UserInputAst) (default : List ℕ) (most middle now : ℕ) → HasOpened file index → later ≡ Some file → table_of file ≢ None
-    → (p : IsPriced file tree default most) → FetchesFor index later (lookups_of tree default) middle now → now + (64 + length p.sst.index_part) ≤ middle + most
-lookups-covered file later index tree default most middle now opened is whole p fetches =
+lookups-covered : (file : List ℕ) (index : OpenIndex) (tree : UserInputAst) (default : List ℕ) (most : ℕ) (middle now : FileState) (P : Type 0) → HasOpened file index → middle.contents ≡ Some file
+    → table_of file ≢ None → (p : IsPriced file tree default most) → IsAsked index (lookups_of tree default) middle now P → now.fetched + (64 + length p.sst.index_part) ≤ middle.fetched + most
+lookups-covered file index tree default most middle now P opened is whole p asks =
     let table = there (table_of file) whole in
-    let postings : postings_told index later ≡ Some table.0 = ap (postings_told index) is ∙ opened.postings ∙ table.1 in
-    let blocks : blocks_told range index.dictionary later ≡ Some p.sst.blocks = ap (blocks_told range index.dictionary) is ∙ opened.blocks ∙ priced-blocks file tree default most p in
-    let documents : index.documents ≡ p.parts.0.documents = sym (told_documents later index table.0 postings) ∙ priced-documents file tree default most p table.0 table.1 in
+    let postings : postings_told index middle.contents ≡ Some table.0 = ap (postings_told index) is ∙ opened.postings ∙ table.1 in
+    let blocks : blocks_told range index.dictionary middle.contents ≡ Some p.sst.blocks = ap (blocks_told range index.dictionary) is ∙ opened.blocks ∙ priced-blocks file tree default most p in
+    let documents : index.documents ≡ p.parts.0.documents = sym (told_documents middle.contents index table.0 postings) ∙ priced-documents file tree default most p table.0 table.1 in
     let same : lookups_cost index p.sst.blocks (lookups_of tree default) ≡ sum (map (lookup_cost (width_of p.parts.0.documents) p.sst.blocks) (lookups_of tree default)) =
     ap (λ n. sum (map (lookup_cost (width_of n) p.sst.blocks) (lookups_of tree default))) documents in
-    omega (arith, fetches.bound p.sst.blocks table.0 blocks postings, same, p.most_is)
+    omega (arith, asks.fetched p.sst.blocks table.0 blocks postings, same, p.most_is)
 
-opening-covered : (file : List ℕ) (tree : UserInputAst) (default : List ℕ) (most before middle : ℕ) (contents : Option (List ℕ)) → contents ≡ Some file → FetchesOpening contents before middle
-    → (p : IsPriced file tree default most) → middle ≤ before + (52 + length p.sst.index_part)
-opening-covered file tree default most before middle contents is opening p =
-    let fetched : middle ≤ before + (52 + length (index_part_in file)) = subst (λ o. FetchesOpening o before middle) is opening in
-    omega (arith, fetched, ap (λ (part : List ℕ). length part) (priced-index_part file tree default most p))
+opening-covered : (file : List ℕ) (tree : UserInputAst) (default : List ℕ) (most : ℕ) (before middle : FileState) → before.contents ≡ Some file → FetchesOpening before middle
+    → (p : IsPriced file tree default most) → middle.fetched ≤ before.fetched + (52 + length p.sst.index_part)
+opening-covered file tree default most before middle is opening p =
+    omega (arith, opening file is, ap (λ (part : List ℕ). length part) (priced-index_part file tree default most p))
 
-pub fetches_opening : (contents : Option (List ℕ)) (tree : UserInputAst) (default : List ℕ) (before now : ℕ) → before ≤ now → FetchesOpening contents before now → FetchesTree contents tree default before now
-fetches_opening contents tree default before now rises opening = record {
-  later = rises;
-  bound = λ file most is whole priced_at.
-      let p = priced file tree default most priced_at in
-      omega (arith, opening-covered file tree default most before now contents is opening p, p.most_is);
-}
+pub fetches_opening : (tree : UserInputAst) (default : List ℕ) (before now : FileState) → FetchesOpening before now → FetchesTree tree default before now
+fetches_opening tree default before now opening = λ file most is whole priced_at.
+    let p = priced file tree default most priced_at in
+    omega (arith, opening-covered file tree default most before now is opening p, p.most_is)
 
-pub fetches_tree : (contents later : Option (List ℕ)) (index : OpenIndex) (tree : UserInputAst) (default : List ℕ) (before middle now : ℕ) → OpensTold contents (Ok index) → later ≡ contents
-    → before ≤ middle → FetchesOpening contents before middle → FetchesFor index later (lookups_of tree default) middle now → FetchesTree contents tree default before now
-fetches_tree contents later index tree default before middle now opens same rises opening fetches = record {
-  later = omega (arith, rises, fetches.later);
-  bound = λ file most is whole priced_at.
-      let p = priced file tree default most priced_at in
-      let has = subst (λ o. OpensTold o (Ok index)) is opens in
-      omega (arith, opening-covered file tree default most before middle contents is opening p, lookups-covered file later index tree default most middle now has (same ∙ is) whole p fetches);
-}
+pub fetches_tree : (index : OpenIndex) (tree : UserInputAst) (default : List ℕ) (before middle now : FileState) (P : Type 0) → OpensTold before.contents (Ok index) → middle.contents ≡ before.contents
+    → FetchesOpening before middle → IsAsked index (lookups_of tree default) middle now P → FetchesTree tree default before now
+fetches_tree index tree default before middle now P opens same opening asks = λ file most is whole priced_at.
+    let p = priced file tree default most priced_at in
+    let has = subst (λ o. OpensTold o (Ok index)) is opens in
+    omega (arith, opening-covered file tree default most before middle is opening p, lookups-covered file index tree default most middle now P has (same ∙ is) whole p asks)
 
 -- ---- the whole answer
 
-pub fetches_query : (contents : Option (List ℕ)) (query default : List ℕ) (tree : UserInputAst) (before now : ℕ) → IsSearched query tree → FetchesTree contents tree default before now → Fetches contents query default before now
-fetches_query contents query default tree before now searched fetches = record {
-  later = fetches.later;
-  bound = λ file other most is whole tree_is priced_at.
-      fetches.bound file most is whole (ap (λ t. cost file t default) (same_tree query tree other searched.taken.tree_is tree_is) ∙ priced_at);
-}
+pub fetches_query : (query default : List ℕ) (tree : UserInputAst) (before now : FileState) → IsSearched query tree → FetchesTree tree default before now → Fetches query default before now
+fetches_query query default tree before now searched fetches = λ file other most is whole tree_is priced_at.
+    fetches file most is whole (ap (λ t. cost file t default) (same_tree query tree other searched.taken.tree_is tree_is) ∙ priced_at)

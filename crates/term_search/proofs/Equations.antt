@@ -4,15 +4,15 @@ use Rattle.std.proofs.Math.Seq.{take-suc}
 use Rattle.std.specs.List.{flat_map}
 use Rattle.std.proofs.lemmas.List.Concat.{flat_map-append}
 use Rattle.query_tree.specs.declared.tree.Occur.{Occur}
-use Rattle.query_tree.specs.declared.tree.Decimal.{Decimal}
+use Rattle.query_tree.specs.Decimals.{Digits}
 use Rattle.query_tree.specs.declared.tree.UserInputLeaf.{UserInputLeaf}
 use Rattle.query_tree.specs.declared.tree.UserInputAst.{UserInputAst, fold-roll-UserInputAst}
 use Rattle.query_tree.specs.declared.tree.UserInputAst.TheVariants as tree
 use Rattle.query_tree.specs.declared.tree.UserInputAst.TheVariants.{rolls-Clause, rolls-Boost, rolls-Leaf}
 use Rattle.query_tree.specs.declared.tree.UserInputAst.TheOpen.{Clause, Boost, Leaf}
-use Rattle.term_documents.specs.declared.documents.Doc.{Doc}
-use Rattle.term_documents.specs.Satisfies.{satisfies, satisfies_clause, satisfies_leaf}
-use Rattle.index_file.specs.Search.{leaves_of}
+use Rattle.documents.specs.declared.documents.Doc.{Doc}
+use Rattle.printed_queries.specs.Satisfies.{satisfies, satisfies_clause, satisfies_leaf}
+use Rattle.term_search.specs.Search.{leaves_of}
 use Rattle.term_search.specs.Leaves.{leaves_among}
 
 pub satisfies-Clause : (doc : Doc) (default : List ℕ) (pairs : List (Option Occur × UserInputAst))
@@ -20,7 +20,7 @@ pub satisfies-Clause : (doc : Doc) (default : List ℕ) (pairs : List (Option Oc
 unfolding satisfies
 satisfies-Clause doc default pairs = ap (λ t. satisfies doc t default) (sym (rolls-Clause pairs)) ∙ fold-roll-UserInputAst _ _ (Clause pairs)
 
-pub satisfies-Boost : (doc : Doc) (default : List ℕ) (inner : UserInputAst) (factor : Decimal)
+pub satisfies-Boost : (doc : Doc) (default : List ℕ) (inner : UserInputAst) (factor : Digits)
     → satisfies doc (tree.Boost inner factor) default ≡ satisfies doc inner default
 unfolding satisfies
 satisfies-Boost doc default inner factor = ap (λ t. satisfies doc t default) (sym (rolls-Boost inner factor)) ∙ fold-roll-UserInputAst _ _ (Boost inner factor)
@@ -37,7 +37,7 @@ pub leaves_of-Clause : (pairs : List (Option Occur × UserInputAst)) → leaves_
 unfolding leaves_of
 leaves_of-Clause pairs = ap leaves_of (sym (rolls-Clause pairs)) ∙ fold-roll-UserInputAst _ _ (Clause pairs) ∙ flat_map-pairs leaves_of pairs
 
-pub leaves_of-Boost : (inner : UserInputAst) (factor : Decimal) → leaves_of (tree.Boost inner factor) ≡ leaves_of inner
+pub leaves_of-Boost : (inner : UserInputAst) (factor : Digits) → leaves_of (tree.Boost inner factor) ≡ leaves_of inner
 unfolding leaves_of
 leaves_of-Boost inner factor = ap leaves_of (sym (rolls-Boost inner factor)) ∙ fold-roll-UserInputAst _ _ (Boost inner factor)
 
@@ -46,8 +46,6 @@ unfolding leaves_of
 leaves_of-Leaf l = ap leaves_of (sym (rolls-Leaf l)) ∙ fold-roll-UserInputAst _ _ (Leaf l)
 
 pub ruleset all_leaves = (leaves_of-Clause, leaves_of-Boost, leaves_of-Leaf)
-
-pub ruleset meanings = (satisfies-Clause, satisfies-Boost, satisfies-Leaf)
 
 -- ---- one pair more
 

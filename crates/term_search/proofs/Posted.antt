@@ -11,11 +11,11 @@ use Rattle.std.proofs.lemmas.Map.Text.{is_eq-slice_cmp}
 use Rattle.std.proofs.lemmas.List.Folds.{list_any-append}
 use Rattle.owned_bytes.specs.Keys.{Key, is_same, is_below, is_equal, with_key, key_set}
 use Rattle.common_bitset.specs.Numbers.{Numbers, rising}
-use Rattle.tantivy_sstable.specs.Between.{value_at}
-use Rattle.term_documents.specs.declared.documents.Pair.{Pair}
-use Rattle.term_documents.specs.declared.documents.Doc.{Doc}
-use Rattle.term_documents.specs.Documents.{IsField, IsValidPair, AreValidDocuments, numbers_where, holds}
-use Rattle.term_documents.specs.Postings.{gather, key_of, keys_of, numbers_of}
+use Rattle.sstable_format.specs.Entries.{value_at}
+use Rattle.documents.specs.declared.documents.Pair.{Pair}
+use Rattle.documents.specs.declared.documents.Doc.{Doc}
+use Rattle.documents.specs.Documents.{IsField, IsValidPair, AreValidDocuments, numbers_where, holds}
+use Rattle.documents.specs.Postings.{gather, key_of, keys_of, numbers_of}
 use Rattle.term_search.specs.Members.{HasThose}
 
 -- ---- numbers of documents, of which the first has number k

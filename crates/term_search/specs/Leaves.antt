@@ -5,7 +5,7 @@ use Rattle.query_tree.specs.declared.tree.Occur.{Occur}
 use Rattle.query_tree.specs.declared.tree.UserInputLeaf.{UserInputLeaf}
 use Rattle.query_tree.specs.declared.tree.UserInputLeaf.TheVariants as leaf
 use Rattle.query_tree.specs.declared.tree.UserInputAst.{UserInputAst}
-use Rattle.index_file.specs.Search.{leaves_of}
+use Rattle.term_search.specs.Search.{leaves_of}
 use Rattle.term_search.specs.declared.answer.Kind.{Kind}
 use Rattle.term_search.specs.declared.answer.Kind.TheVariants.{Slop, Regex}
 use Rattle.term_search.specs.declared.obstacles.Obstacles.{Obstacles}
@@ -49,6 +49,10 @@ IsReady tree = has_waiting_leaf tree ≡ false
 -- the leaves of the trees of a clause
 abbrev pub leaves_among : List (Option Occur × UserInputAst) → List UserInputLeaf
 leaves_among pairs = flat_map (λ pair. leaves_of pair.1) pairs
+
+-- some of them is still to be learned
+abbrev pub is_waiting_among : List (Option Occur × UserInputAst) → Bool
+is_waiting_among pairs = list_any is_waiting_leaf (leaves_among pairs)
 
 abbrev pub first_of : Option Kind → Option Kind → Option Kind
 first_of (Some kind) other = Some kind

@@ -1,3 +1,4 @@
+pub mod Search
 pub mod Leaves
 pub mod Members
 pub mod Searching

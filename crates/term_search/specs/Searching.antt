@@ -1,18 +1,20 @@
 -- What a search answers.
 use Rattle.std.specs.Prelude.{◌≡◌, ◌≢◌, ℕ, ◌+◌, ◌*◌, ◌<◌, ◌≤◌, List, length, true, false, Option, Some, None, Result, Ok, Err, ⊤, ◌⊎◌}
+use Rattle.owned_bytes.specs.Outside.{FileState}
 use Rattle.query_tree.specs.declared.tree.UserInputAst.{UserInputAst}
 use Rattle.query_tree.specs.Grammar.{max_levels}
 use Rattle.query_tree.specs.Answer as grammar
 use Rattle.query_tree.specs.Answer.{tree_of}
 use Rattle.query_tree.specs.Printing as printing
-use Rattle.tantivy_sstable.specs.Opening.{version_of, is_known, is_compressed_at}
-use Rattle.term_documents.specs.declared.documents.Doc.{Doc}
-use Rattle.term_documents.specs.Satisfies.{satisfies}
-use Rattle.term_documents.specs.Meaning.{means}
-use Rattle.term_documents.specs.Law.{IsPrinted, AnswersPrinted, satisfying}
+use Rattle.sstable_format.specs.Version.{version_of, is_known}
+use Rattle.sstable_format.specs.Refused.{is_compressed_at}
+use Rattle.documents.specs.declared.documents.Doc.{Doc}
+use Rattle.printed_queries.specs.Satisfies.{satisfies}
+use Rattle.printed_queries.specs.Meaning.{means}
+use Rattle.printed_queries.specs.Law.{IsPrinted, AnswersPrinted, satisfying}
 use Rattle.index_file.specs.IndexFile.{table_of, IsIndexOf}
 use Rattle.index_file.specs.Opening.{CanBeOpened, IsDamaged, is_waiting_file}
-use Rattle.index_file.specs.Search.{units, asked, cost}
+use Rattle.term_search.specs.Search.{units, asked, cost}
 use Rattle.term_search.specs.Leaves.{first_unsupported, IsSupported, has_waiting_leaf, IsReady}
 use Rattle.term_search.specs.declared.answer.Kind.{Kind}
 use Rattle.term_search.specs.declared.answer.Answer.{Answer}
@@ -136,24 +138,20 @@ abbrev pub IsDamagedOrMemory : Result Answer SearchError → Type 0
 IsDamagedOrMemory (Ok answer) = ⊥
 IsDamagedOrMemory (Err error) = (error ≡ Memory) ⊎ (error ≡ Corrupt)
 
--- ---- counts
+-- ---- what is read
 
--- A count of reads does not fall, and rises by at most 4 and two for each that the tree asks the file for.
-pub record ReadsFor (query default : List ℕ) (before now : ℕ) : Type 0 where
-  pub later : before ≤ now
-  pub bound : (tree : UserInputAst) → tree_of query ≡ grammar.Tree tree → now ≤ before + (4 + 2 * length (asked tree default))
+-- The count of reads rises by at most 4 and two for each that the tree asks the file for, and so by at most 4 and two for each
+-- unit of the tree.
+pub record ReadsFor (query default : List ℕ) (before now : FileState) : Type 0 where
+  pub asked : (tree : UserInputAst) → tree_of query ≡ grammar.Tree tree → now.reads ≤ before.reads + (4 + 2 * length (asked tree default))
+  pub within : (tree : UserInputAst) → tree_of query ≡ grammar.Tree tree → now.reads ≤ before.reads + (4 + 2 * units tree)
 
--- and so by at most 4 and two for each unit of the tree
-abbrev pub ReadsWithin : List ℕ → ℕ → ℕ → Type 0
-ReadsWithin query before now = (tree : UserInputAst) → tree_of query ≡ grammar.Tree tree → now ≤ before + (4 + 2 * units tree)
-
--- A count of bytes does not fall, and on a told file with a table it rises by at most what the search may cost.
-pub record Fetches (contents : Option (List ℕ)) (query default : List ℕ) (before now : ℕ) : Type 0 where
-  pub later : before ≤ now
-  pub bound : (file : List ℕ) (tree : UserInputAst) (most : ℕ) → contents ≡ Some file → table_of file ≢ None
-      → tree_of query ≡ grammar.Tree tree → cost file tree default ≡ Some most → now ≤ before + most
+-- On a told file with a table the count of bytes rises by at most what the search may cost.
+abbrev pub Fetches : List ℕ → List ℕ → FileState → FileState → Type 0
+Fetches query default before now = (file : List ℕ) (tree : UserInputAst) (most : ℕ) → before.contents ≡ Some file → table_of file ≢ None
+    → tree_of query ≡ grammar.Tree tree → cost file tree default ≡ Some most → now.fetched ≤ before.fetched + most
 
 -- the same of the search for a tree
-pub record FetchesTree (contents : Option (List ℕ)) (tree : UserInputAst) (default : List ℕ) (before now : ℕ) : Type 0 where
-  pub later : before ≤ now
-  pub bound : (file : List ℕ) (most : ℕ) → contents ≡ Some file → table_of file ≢ None → cost file tree default ≡ Some most → now ≤ before + most
+abbrev pub FetchesTree : UserInputAst → List ℕ → FileState → FileState → Type 0
+FetchesTree tree default before now = (file : List ℕ) (most : ℕ) → before.contents ≡ Some file → table_of file ≢ None
+    → cost file tree default ≡ Some most → now.fetched ≤ before.fetched + most

@@ -1,4 +1,4 @@
-//! What a search answers.
+// What a search answers.
 use index_reading::IndexError;
 use owned_bytes::Ids;
 use std::alloc::AllocError;

@@ -2,14 +2,13 @@
 #![tactic(auto)]
 
 mod answer;
+mod lone;
 mod members;
 mod obstacles;
 mod search;
 
 pub use answer::{Answer, Kind, SearchError};
+pub use documents::{Doc, Fault, Pair, Pairs, PlacedFault, are_valid, documents_size, first_fault};
 pub use index_writing::{WriteError, write_index};
+pub use printed_queries::{Bound, Expr, expr_depth, is_plain, print_expr};
 pub use search::search_index;
-pub use term_documents::{
-    Bound, Doc, Expr, Fault, Pair, Pairs, PlacedFault, are_valid, documents_size, expr_depth,
-    first_fault, is_plain, print_expr,
-};

@@ -1,7 +1,7 @@
-//! What keeps a search from a tree.
+// What keeps a search from a tree.
 ghost use Rattle.std.specs.Prelude.{◌≡◌, List, [], ◌∷◌, ◌++◌};
 ghost use Rattle.query_tree.specs.declared.tree.UserInputLeaf.{UserInputLeaf};
-ghost use Rattle.index_file.specs.Search.{leaves_of};
+ghost use Rattle.term_search.specs.Search.{leaves_of};
 ghost use Rattle.term_search.specs.Leaves as spec;
 ghost use Rattle.term_search.specs.Leaves.{Sees, leaves_among};
 

@@ -1,12 +1,18 @@
-//! A whole search.
-ghost use Rattle.std.specs.Prelude.{◌≡◌, ◌<◌, ◌+◌, ◌*◌, length, Err, IfErr};
-ghost use Rattle.owned_bytes.specs.Outside.{HasCause, RisesAtMost};
-ghost use Rattle.index_file.specs.Search.{asked};
-ghost use Rattle.term_search.specs.Searching.{AnswersQuery, AnswersTold, AnswersExpression, CanBeSearched, IsWhole, IsAnsweredOrRead, IsDamagedOrMemory, ReadsQuery, FindsNumbersTold, IsOfFile, ReadsFor, ReadsWithin, Fetches, FetchesTree};
+// A whole search.
+ghost use Rattle.std.specs.Prelude.{◌≡◌, ◌<◌, ◌≤◌, ◌+◌, ◌*◌, length, Err, IfOk, IfErr};
+ghost use Rattle.owned_bytes.specs.Outside.{LeavesFile};
+ghost use Rattle.index_reading.specs.Opened.{LiesIn};
+ghost use Rattle.printed_queries.specs.Satisfies.{satisfies};
+ghost use Rattle.term_search.specs.Search.{asked, lookups_of};
+ghost use Rattle.term_search.specs.Leaves.{has_waiting_leaf};
+ghost use Rattle.term_search.specs.Members.{Finds, Asks, IsSearchError};
+ghost use Rattle.term_search.specs.Searching.{AnswersQuery, AnswersTold, AnswersExpression, CanBeSearched, IsWhole, IsAnsweredOrRead, IsDamagedOrMemory, ReadsQuery, FindsNumbersTold, IsOfFile, ReadsFor, Fetches, FetchesTree};
 
-use crate::members::tree_members;
+use crate::lone::lone_literal;
+use crate::members::{literal_members, tree_members};
 use crate::obstacles::obstacles_of;
 use crate::{Answer, SearchError};
+use document_sets::FoundDocuments;
 use index_reading::OpenIndex;
 use owned_bytes::{FileHandle, Ids};
 use std::alloc::Global;
@@ -25,16 +31,13 @@ pub fn search_index<H: FileHandle>(
     query: &str,
 ) -> Result<Answer, SearchError>
     ensures query { AnswersQuery query.now result }
-    ensures told { AnswersTold (H.contents file.old) query.now default_field.now result }
+    ensures told { AnswersTold (H.state file.old).contents query.now default_field.now result }
     ensures printed { AnswersExpression query.now result }
-    ensures short { H.size file.old < 4 → CanBeSearched query.now → IsDamagedOrMemory result }
-    ensures complete { IsWhole (H.contents file.old) → CanBeSearched query.now → IsAnsweredOrRead result }
-    ensures contents { H.contents file.new ≡ H.contents file.old }
-    ensures size { H.size file.new ≡ H.size file.old }
-    ensures cause { HasCause (H.faults file.old) (H.faults file.new) (result ≡ Err SearchError.Read) }
-    ensures reads { ReadsFor query.now default_field.now (H.reads file.old) (H.reads file.new) }
-    ensures reads_within { ReadsWithin query.now (H.reads file.old) (H.reads file.new) }
-    ensures fetched { Fetches (H.contents file.old) query.now default_field.now (H.fetched file.old) (H.fetched file.new) }
+    ensures short { (H.state file.old).size < 4 → CanBeSearched query.now → IsDamagedOrMemory result }
+    ensures complete { IsWhole (H.state file.old).contents → CanBeSearched query.now → IsAnsweredOrRead result }
+    ensures file { LeavesFile (H.state file.old) (H.state file.new) (result ≡ Err SearchError.Read) }
+    ensures reads { ReadsFor query.now default_field.now (H.state file.old) (H.state file.new) }
+    ensures fetched { Fetches query.now default_field.now (H.state file.old) (H.state file.new) }
     ensures reads_nothing { ¬ CanBeSearched query.now → file.new ≡ file.old }
 {
     let tree = match read_query(alloc, query) {
@@ -47,7 +50,7 @@ pub fn search_index<H: FileHandle>(
     }
 }
 
-/// The tree of a query, all of whose leaves are searched for.
+// The tree of a query, all of whose leaves are searched for.
 fn read_query(alloc: Global, query: &str) -> Result<UserInputAst, SearchError>
     ensures { ReadsQuery query.now result }
 {
@@ -67,28 +70,48 @@ fn read_query(alloc: Global, query: &str) -> Result<UserInputAst, SearchError>
     Ok(tree)
 }
 
-/// The numbers of the documents that satisfy a tree, by the index that the whole file is.
+// The numbers of the documents that satisfy a tree, by the index that the whole file is.
 fn find_numbers<H: FileHandle>(
     alloc: Global,
     file: &mut H,
-    default_field: &str,
+    default: &str,
     tree: &UserInputAst,
 ) -> Result<Ids, SearchError>
-    ensures told { FindsNumbersTold (H.contents file.old) tree.now default_field.now result }
+    ensures told { FindsNumbersTold (H.state file.old).contents tree.now default.now result }
     ensures error { IfErr result IsOfFile }
-    ensures short { H.size file.old < 4 → result ≡ Err SearchError.Corrupt }
-    ensures contents { H.contents file.new ≡ H.contents file.old }
-    ensures size { H.size file.new ≡ H.size file.old }
-    ensures cause { HasCause (H.faults file.old) (H.faults file.new) (result ≡ Err SearchError.Read) }
-    ensures reads { RisesAtMost (H.reads file.old) (H.reads file.new) (4 + 2 * length (asked tree.now default_field.now)) }
-    ensures fetched { FetchesTree (H.contents file.old) tree.now default_field.now (H.fetched file.old) (H.fetched file.new) }
+    ensures short { (H.state file.old).size < 4 → result ≡ Err SearchError.Corrupt }
+    ensures file { LeavesFile (H.state file.old) (H.state file.new) (result ≡ Err SearchError.Read) }
+    ensures reads { (H.state file.new).reads ≤ (H.state file.old).reads + (4 + 2 * length (asked tree.now default.now)) }
+    ensures fetched { FetchesTree tree.now default.now (H.state file.old) (H.state file.new) }
 {
     let index = match OpenIndex::open(alloc, file) {
         Ok(index) => index,
         Err(error) => return Err(error.into()),
     };
-    match tree_members(alloc, file, &index, default_field, tree) {
-        Ok(members) => Ok(members.to_ids(alloc)?),
+    match find_documents(alloc, file, &index, default, tree) {
+        Ok(found) => Ok(found.into_ids(alloc)?),
+        Err(error) => Err(error),
+    }
+}
+
+// The documents that satisfy a tree: those of a lone literal as the list that the file has, all others as a set.
+fn find_documents<H: FileHandle>(
+    alloc: Global,
+    file: &mut H,
+    index: &OpenIndex,
+    default: &str,
+    tree: &UserInputAst,
+) -> Result<FoundDocuments, SearchError>
+    requires lies { LiesIn index.now (H.state file.old).size }
+    ensures found { IfOk result (Finds index.now (H.state file.old) (λ doc. satisfies doc tree.now default.now)) }
+    ensures error { IfErr result (IsSearchError index.now (H.state file.old) (has_waiting_leaf tree.now)) }
+    ensures asks { Asks index.now (lookups_of tree.now default.now) (H.state file.old) (H.state file.new) result }
+{
+    if let Some(literal) = lone_literal(tree) {
+        return literal_members(alloc, file, index, default, literal);
+    }
+    match tree_members(alloc, file, index, default, tree) {
+        Ok(members) => Ok(FoundDocuments::from_set(members)),
         Err(error) => Err(error),
     }
 }

@@ -1,9 +1,9 @@
 // Expressions as texts of the strict grammar, and which of them are plain.
 use owned_bytes::{Text, Texts};
+use printed_queries::{Bound, Expr, expr_depth, is_plain, print_expr};
 use std::alloc::{AllocError, Global};
 use std::test::Fail;
 use tantivy_query_grammar::parse_query;
-use term_documents::{Bound, Expr, expr_depth, is_plain, print_expr};
 
 fn term(alloc: Global, field: &str, word: &str) -> Result<Expr, AllocError> {
     let field = Text::from_str(alloc, field)?;

@@ -1,4 +1,4 @@
--- What changes of words do to the set that they have together.
+-- What changes of words do to the set that they have together. A reader of contracts may skip this file.
 use Rattle.std.proofs.Common.{◌≡◌, ℕ, zero, suc, ◌+◌, ◌-◌, ◌*◌, ◌/◌, ◌%◌, ◌<◌, ◌≤◌, ◌&&◌, ◌||◌, not, Bool, true, false, cond, List, ◌++◌, set, length, filter, refl, sym, ap, ◌∙◌, arith, nat_eq, eqb, ltb, inl, inr, get_or-set_same, get_or-set_other, length-append, append-nil, add-zero, zero-add, get_or}
 use Rattle.std.specs.List.{range_with_len}
 use Rattle.std.specs.Int.{div_ceil}

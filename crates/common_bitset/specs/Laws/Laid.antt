@@ -1,4 +1,4 @@
--- A set stays laid out in words through each change.
+-- A set stays laid out in words through each change. A reader of contracts may skip this file.
 use Rattle.std.proofs.Common.{◌≡◌, ℕ, ◌+◌, ◌-◌, ◌*◌, ◌/◌, ◌%◌, ◌^◌, ◌<◌, ◌≤◌, not, Bool, true, false, cond, List, length, set, get_or, inl, inr, refl, sym, ap, subst, ◌∙◌, arith, length-set, add-zero, replicate}
 use Rattle.std.specs.List.{range_with_len}
 use Rattle.std.specs.Int.{div_ceil, from_bool}

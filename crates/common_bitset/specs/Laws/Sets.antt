@@ -1,4 +1,4 @@
--- Laws of finite sets of numbers: what each operation contains, how many there are, and their rising list.
+-- Laws of finite sets of numbers: what each operation contains, how many there are, and their rising list. A reader of contracts may skip this file.
 use Rattle.std.proofs.Common.{◌≡◌, ℕ, zero, suc, ◌+◌, ◌<◌, ◌&&◌, ◌||◌, not, Bool, true, false, cond, [], ◌∷◌, refl, sym, ap, ◌∙◌, arith, nat_eq, ltb, inl, inr, length, filter, ◌++◌, length-append, append-nil, zero-add, add-one, ◌≤◌}
 use Rattle.std.specs.Ordering.{nat_cmp}
 use Rattle.std.specs.Bool.{Decides}

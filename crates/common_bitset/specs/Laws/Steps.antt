@@ -1,4 +1,4 @@
--- An iterator that shows the list of what is left gets nearer its end.
+-- An iterator that shows the list of what is left gets nearer its end. A reader of contracts may skip this file.
 use Rattle.std.proofs.Common.{List, Option, None, Some, length, rules, ap}
 use Rattle.std.specs.Iterator.{YieldsFirst, MakesProgress, item_count}
 

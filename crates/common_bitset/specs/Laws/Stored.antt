@@ -1,4 +1,4 @@
--- Words in bytes.
+-- Words in bytes. A reader of contracts may skip this file.
 use Rattle.std.proofs.Common.{◌≡◌, ℕ, zero, suc, ◌+◌, ◌-◌, ◌*◌, ◌/◌, ◌%◌, ◌^◌, ◌<◌, ◌≤◌, List, [], ◌∷◌, ◌++◌, length, take, drop, flat_map, refl, sym, ap, subst, ◌∙◌, arith, inl, inr, true, add-one, zero-add, w32, w64, append-nil, length-append, length-drop, ◌&&◌, false, ltb, not}
 use Rattle.std.specs.Int.{div_ceil, to_le_bytes, from_le_bytes}
 use Rattle.std.specs.List.{range_with_len}

@@ -1,4 +1,4 @@
--- What the operations on words of bits do to the sets of their elements.
+-- What the operations on words of bits do to the sets of their elements. A reader of contracts may skip this file.
 use Rattle.std.proofs.Common.{◌≡◌, ℕ, zero, suc, ◌+◌, ◌-◌, ◌*◌, ◌/◌, ◌%◌, ◌^◌, ◌<◌, ◌≤◌, min, max, ◌&&◌, ◌||◌, not, Bool, true, false, cond, List, ◌∷◌, refl, sym, ap, ◌∙◌, arith, nat_eq, eqb, ltb, inl, inr, length, filter, sum_by, count_ones, bit_and, bit_or, w64, one-add, add-one, pow-suc, mod-eq_of_lt, lit<, Option, None, Some, IsNone, IfSome, ◌↔◌, zero-mul, zero-add, add-zero, suc-mul, mul-one, div-one, subst}
 use Rattle.std.specs.List.{range_with_len}
 use Rattle.std.specs.Int.{bit_at, bit_not, trailing_zeros}

@@ -1,4 +1,4 @@
-use Rattle.common_wire.specs.GroupLaws.{vint32-again, vint32-vint}
+use Rattle.common_wire.proofs.SevenBits.{vint32-again, vint32-vint}
 use Rattle.common_wire.proofs.laws.u32_vint_is_a_vint.Goals as goal
 
 pub returns-clause-again : goal.returns-clause-again

@@ -1,7 +1,7 @@
 use Rattle.std.proofs.Common.{◌∙◌, ap, ℕ, ◌<◌, arith}
 use Rattle.common_wire.specs.Wire.{vint_bytes, group_bytes}
 use Rattle.common_wire.specs.Serialized.{limit}
-use Rattle.common_wire.specs.GroupLaws.{group_bytes-room}
+use Rattle.common_wire.proofs.SevenBits.{group_bytes-room}
 use Rattle.common_wire.proofs.vint.serialize_vint_u32.Goals as goal
 
 pub returns : goal.returns

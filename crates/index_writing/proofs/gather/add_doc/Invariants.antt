@@ -1,5 +1,5 @@
 use Rattle.std.proofs.Common.{◌≡◌, ◌++◌, ◌∷◌, [], List, length, take}
-use Rattle.term_documents.specs.declared.documents.Doc.{Doc}
+use Rattle.documents.specs.declared.documents.Doc.{Doc}
 use Rattle.index_writing.specs.Gathering.{Tells}
 use Rattle.index_writing.proofs.gather.add_doc.Given as goal
 

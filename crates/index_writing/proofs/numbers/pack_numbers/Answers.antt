@@ -1,23 +1,25 @@
-use Rattle.std.proofs.Common.{◌≡◌, ◌∙◌, sym, ap, subst, ℕ, ◌+◌, ◌<◌, List, [], ◌∷◌, ◌++◌, length, take, get_or, Some}
-use Rattle.std.proofs.lemmas.List.{take_more, take_all, map-append}
-use Rattle.tantivy_bitpacker.specs.Packed.{HasPacked, at_width, packed_pieces}
+use Rattle.std.proofs.Common.{◌∙◌, ap, ◌++◌, Some}
+use Rattle.std.proofs.lemmas.List.{take_all}
+use Rattle.tantivy_bitpacker.specs.Packed.{at_width, packed_pieces}
+use Rattle.index_writing.specs.Emitting.{numbers_of_all}
 use Rattle.index_writing.proofs.Inserts.{on-ok}
+use Rattle.index_writing.proofs.Packing.{fit-posting, pack-posting}
 use Rattle.index_writing.proofs.numbers.pack_numbers.Goals as goal
 
-one-more : (width : ℕ) (numbers : List ℕ) (i : ℕ) → i < length numbers → at_width width (take (i + 1) numbers) ≡ at_width width (take i numbers) ++ (get_or numbers i 0, width) ∷ []
-one-more width numbers i within = ap (at_width width) (take_more numbers i 0 within) ∙ map-append (λ value. (value, width)) (take i numbers) (get_or numbers i 0 ∷ [])
+pub loop-posting-init : goal.loop-posting-init
+loop-posting-init c = c.new-packer.ensures.run (Some c.args.sink.now)
 
-pub loop-number-init : goal.loop-number-init
-loop-number-init c = c.new-packer.ensures.run (Some c.args.sink.now)
+pub pack_list-requires-clause-fits : goal.pack_list-requires-clause-fits
+pack_list-requires-clause-fits c =
+    fit-posting c.args.width c.args.postings.now c.loop-posting.posting-index c.posting-item.result c.as_slice.result.now c.loop-posting-test.true c.posting-item.is c.as_slice.ensures c.requires.fits
 
-pub loop-number-preserved : goal.loop-number-preserved
-loop-number-preserved c =
-    let more = on-ok c.write.result _ c.write.ensures.run c.in_ok-in_memory.ensures in
-    let has = more (at_width c.args.width (take c.loop-number.number-index c.args.numbers.now)) (Some c.args.sink.now) c.loop-number.invariant in
-    subst (λ pieces. HasPacked pieces c.write.new.self (Some c.args.sink.now) (Some c.write.new.output)) (sym (one-more c.args.width c.args.numbers.now c.loop-number.number-index c.loop-number-test.true)) has
+pub loop-posting-preserved : goal.loop-posting-preserved
+loop-posting-preserved c =
+    pack-posting c.args.width c.args.postings.now c.loop-posting.posting-index c.posting-item.result c.as_slice.result.now c.loop-posting.packer c.pack_list.new.packer c.args.sink.now c.loop-posting.sink c.pack_list.new.sink
+    c.loop-posting-test.true c.posting-item.is c.as_slice.ensures c.loop-posting.invariant c.in_ok-pack_list.ensures
 
 pub returns : goal.returns
 returns c =
-    let closed = on-ok c.close.result _ c.close.ensures.run c.in_ok-in_memory-2.ensures in
-    let all = take_all c.loop-number.number-index c.args.numbers.now c.loop-number-test.false in
-    closed _ (Some c.args.sink.now) c.loop-number.invariant ∙ ap (λ numbers. c.args.sink.now ++ packed_pieces (at_width c.args.width numbers)) all
+    let closed = on-ok c.close.result _ c.close.ensures.run c.in_ok-in_memory.ensures in
+    let all = take_all c.loop-posting.posting-index c.args.postings.now c.loop-posting-test.false in
+    closed _ (Some c.args.sink.now) c.loop-posting.invariant ∙ ap (λ postings. c.args.sink.now ++ packed_pieces (at_width c.args.width (numbers_of_all postings))) all

@@ -1,11 +1,12 @@
 use Rattle.std.proofs.Common.{◌+◌, refl, ap, arith}
 unfoldable use Rattle.index_writing.specs.Emitting.{ranged}
-use Rattle.index_writing.proofs.Inserts.{can-insert, has-one-more, start-more, start-fits}
+use Rattle.index_writing.proofs.Inserts.{is-taken, has-one-more, start-more, start-fits}
+use Rattle.sstable_tables.proofs.Gathered.{gathered-none}
 use Rattle.index_writing.proofs.table.ranges_writer.Goals as goal
 
 pub loop-posting-init : goal.loop-posting-init
 unfolding ranged
-loop-posting-init c = record { inserted = c.new-writer.ensures.entries; start = refl }
+loop-posting-init c = record { inserted = gathered-none c.new-writer.result c.args.sink c.new-writer.ensures; start = refl }
 
 pub overflow_add-end : goal.overflow_add-end
 overflow_add-end c =
@@ -14,7 +15,7 @@ overflow_add-end c =
 
 pub insert_next-requires : goal.insert_next-requires
 insert_next-requires c =
-    can-insert _ _ c.args.postings.now c.loop-posting.posting-index c.posting-item.result c.loop-posting.start _ c.loop-posting.invariant.inserted c.loop-posting-test.true c.posting-item.is
+    is-taken _ _ c.args.postings.now c.loop-posting.posting-index c.posting-item.result c.loop-posting.start _ c.loop-posting.invariant.inserted c.loop-posting-test.true c.posting-item.is
     c.requires.rising c.loop-posting.invariant.start (ap (λ n. c.loop-posting.start + n) c.len.ensures)
 
 pub loop-posting-preserved : goal.loop-posting-preserved
@@ -23,7 +24,7 @@ loop-posting-preserved c =
     let i = c.loop-posting.posting-index in
     let to = ap (λ n. c.loop-posting.start + n) c.len.ensures in
     record {
-      inserted = has-one-more _ _ ps i c.posting-item.result c.loop-posting.start _ c.loop-posting-test.true c.posting-item.is c.loop-posting.invariant.start to
-          (c.in_ok-insert_next.ensures _ _ c.loop-posting.invariant.inserted);
+      inserted = has-one-more _ _ _ ps i c.posting-item.result c.loop-posting.start _ c.loop-posting-test.true c.posting-item.is c.loop-posting.invariant.start to
+          c.loop-posting.invariant.inserted c.in_ok-insert_next.ensures;
       start = start-more ps i c.posting-item.result c.loop-posting.start _ c.loop-posting-test.true c.posting-item.is c.loop-posting.invariant.start to;
     }

@@ -1,7 +1,7 @@
 use Rattle.std.proofs.Common.{◌≡◌, length}
 use denote.Shadow.{shadow}
 use denote.Text.{Utf8}
-use Rattle.query_tree.specs.Grammar.{trimmed_back}
+use Rattle.query_tree.specs.Decimals.{trimmed_back}
 use Rattle.query_tree.proofs.decimal.without_zeros_behind.Given as goal
 
 abbrev pub invariant-loop-shorter : goal.invariant-loop-shorter

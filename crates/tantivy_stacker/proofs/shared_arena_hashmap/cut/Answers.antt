@@ -6,13 +6,13 @@ use Rattle.tantivy_stacker.proofs.shared_arena_hashmap.cut.Goals as goal
 pub slice_bounds-result-end : goal.slice_bounds-result-end
 slice_bounds-result-end c = sym (length-take-le 65535 c.args.key.now (omega arith))
 
-pub returns-then-key-gt65535-clause-short : goal.returns-then-key-gt65535-clause-short
-returns-then-key-gt65535-clause-short c = omega (arith, length-take-le 65535 c.args.key.now (omega arith))
+pub returns-then-key-gt-LONGEST_KEY-clause-short : goal.returns-then-key-gt-LONGEST_KEY-clause-short
+returns-then-key-gt-LONGEST_KEY-clause-short c = omega (arith, length-take-le 65535 c.args.key.now (omega arith))
 
-pub returns-then-key-gt65535-clause-value : goal.returns-then-key-gt65535-clause-value
+pub returns-then-key-gt-LONGEST_KEY-clause-value : goal.returns-then-key-gt-LONGEST_KEY-clause-value
 unfolding cut_key
-returns-then-key-gt65535-clause-value c = search rules
+returns-then-key-gt-LONGEST_KEY-clause-value c = search rules
 
-pub returns-else-key-gt65535-clause-value : goal.returns-else-key-gt65535-clause-value
+pub returns-else-key-gt-LONGEST_KEY-clause-value : goal.returns-else-key-gt-LONGEST_KEY-clause-value
 unfolding cut_key
-returns-else-key-gt65535-clause-value c = sym (take_all 65535 c.args.key.now c.if-key-gt65535.false)
+returns-else-key-gt-LONGEST_KEY-clause-value c = sym (take_all 65535 c.args.key.now c.if-key-gt-LONGEST_KEY.false)

@@ -1,29 +1,34 @@
 use Rattle.std.proofs.Common.{◌<◌, ◌/◌, length, sym, ◌∙◌, arith}
+use Rattle.common_bitset.specs.Subset.{stored_word}
 use Rattle.common_bitset.specs.Laws.Steps.{step_goes}
 use Rattle.common_bitset.specs.Laws.Iterated.{elements_left-end, elements_left-load, elements_left-pop}
 use Rattle.common_bitset.proofs.iterated.BitSetIterIterator.next.Goals as goal
 
 pub returns-then-self-clause-steps : goal.returns-then-self-clause-steps
 returns-then-self-clause-steps c =
-    let ended = elements_left-end c.loop-self.self-inside.words.now c.loop-self.self-inside.next c.loop-self.self-inside.current (c.is_empty.ensures.0 c.loop-self-test.true) (omega arith) in
+    let words = c.loop-self.self-inside.words.now in
+    let ended = elements_left-end (stored_word words) (length words / 8) c.loop-self.self-inside.next c.loop-self.self-inside.current (c.is_empty.ensures.0 c.loop-self-test.true) (omega arith) in
     (sym c.self.view_is ∙ sym c.loop-self.invariant.left ∙ ended, ended)
 
 pub loop-self-preserved : goal.loop-self-preserved
 loop-self-preserved c =
+    let words = c.loop-self.self-inside.words.now in
     let before = c.loop-self.invariant.placed.within in
     let few = c.loop-self.invariant.placed.few in
     let apart = c.if-self.false in
-    let more : c.loop-self.self-inside.next < length c.loop-self.self-inside.words.now / 8 = omega arith in
+    let more : c.loop-self.self-inside.next < length words / 8 = omega arith in
     record {
-      left = elements_left-load c.loop-self.self-inside.words.now c.loop-self.self-inside.next c.loop-self.self-inside.current c.stored-self-inside.result (c.is_empty.ensures.0 c.loop-self-test.true) more c.stored-self-inside.ensures
+      left =
+          elements_left-load (stored_word words) (length words / 8) c.loop-self.self-inside.next c.loop-self.self-inside.current c.stored-self-inside.result (c.is_empty.ensures.0 c.loop-self-test.true) more c.stored-self-inside.ensures
           ∙ c.loop-self.invariant.left;
       placed = record { few = few; within = omega arith };
     }
 
 pub returns-clause-steps : goal.returns-clause-steps
 returns-clause-steps c =
+    let words = c.loop-self.self-inside.words.now in
     sym c.self.view_is ∙ sym c.loop-self.invariant.left
-    ∙ elements_left-pop c.loop-self.self-inside.words.now c.loop-self.self-inside.next c.in_ok-lowest.lowest c.saturating_sub.result c.loop-self.self-inside.current c.pop_lowest.new.self
+    ∙ elements_left-pop (stored_word words) (length words / 8) c.loop-self.self-inside.next c.in_ok-lowest.lowest c.saturating_sub.result c.loop-self.self-inside.current c.pop_lowest.new.self
     c.saturating_sub.ensures c.in_ok-lowest.ensures.below c.in_ok-lowest.ensures.least c.in_ok-lowest.ensures.after
 
 pub returns-clause-goes : goal.returns-clause-goes

@@ -1,27 +1,14 @@
-use Rattle.std.proofs.Common.{arith}
-use Rattle.sstable_blocks.proofs.RisingLaws.{rest_is}
-use Rattle.sstable_blocks.proofs.BlockLaws.{block-within, goes_on}
+use Rattle.std.proofs.Common.{subst}
+use Rattle.sstable_blocks.specs.BlockReader.{ReadsBlock}
+use Rattle.sstable_blocks.proofs.LeavingLaws.{reads-fewer, reads-again}
 use Rattle.sstable_blocks.proofs.block_reader.BlockReader.read_block.Goals as goal
 
-pub overflow_add-self-3 : goal.overflow_add-self-3
-overflow_add-self-3 c =
-    let read = rw (c.in-Ok-Some.field-0-is, c.as_slice.ensures, rest_is c.self.inside.next c.self.inside.reader) at c.in-Ok-Some.ensures in
-    let within = block-within c.self.inside.reader c.in-Ok-Some.content.now c.in-Ok-Some._rest.now _ c.self.inside.next c.self.invariant.within read in
-    omega (arith, within, c.self.invariant.placed)
+pub returns-clause-falls : goal.returns-clause-falls
+returns-clause-falls c =
+    reads-fewer c.args.self.now c.enter_block.new.self c.enter_block.result
+    (subst (λ s. ReadsBlock s c.enter_block.new.self c.enter_block.result) c.leave_block.ensures c.enter_block.ensures.read)
 
-pub invariant_of-self-2 : goal.invariant_of-self-2
-invariant_of-self-2 c =
-    let read = rw (c.in-Ok-Some.field-0-is, c.as_slice.ensures, rest_is c.self.inside.next c.self.inside.reader) at c.in-Ok-Some.ensures in
-    let within = block-within c.self.inside.reader c.in-Ok-Some.content.now c.in-Ok-Some._rest.now _ c.self.inside.next c.self.invariant.within read in
-    record { begun = omega arith; unread = omega arith; within = within; placed = c.self.invariant.placed }
-
-pub returns-clause-read : goal.returns-clause-read
-returns-clause-read c =
-    let read = rw (c.in-Ok-Some.field-0-is, c.as_slice.ensures, rest_is c.self.inside.next c.self.inside.reader) at c.in-Ok-Some.ensures in
-    rw (← c.self.view_is) (goes_on c.self.inside.reader c.in-Ok-Some.content.now c.in-Ok-Some._rest.now c.self.inside.start c.self.inside.next c.self.invariant.within read)
-
-pub returns-clause-placed : goal.returns-clause-placed
-returns-clause-placed c =
-    let read = rw (c.in-Ok-Some.field-0-is, c.as_slice.ensures, rest_is c.self.inside.next c.self.inside.reader) at c.in-Ok-Some.ensures in
-    let within = block-within c.self.inside.reader c.in-Ok-Some.content.now c.in-Ok-Some._rest.now _ c.self.inside.next c.self.invariant.within read in
-    omega (arith, within, c.self.invariant.placed)
+pub returns-clause-for_good : goal.returns-clause-for_good
+returns-clause-for_good c =
+    reads-again c.args.self.now c.enter_block.new.self c.enter_block.result
+    (subst (λ s. ReadsBlock s c.enter_block.new.self c.enter_block.result) c.leave_block.ensures c.enter_block.ensures.read)

@@ -1,10 +1,21 @@
-use Rattle.sstable_blocks.specs.DeltaReader.{walk}
-use Rattle.sstable_blocks.proofs.EntryLaws.{gives_first, advances_current}
+use Rattle.std.proofs.Common.{◌≡◌, subst, None}
+use Rattle.sstable_blocks.specs.EntryReader.{sliced}
+use Rattle.sstable_blocks.specs.Slices.{AnswersFinal, Steps}
+use Rattle.sstable_blocks.proofs.SliceLaws.{gives_placed, gives_here}
 use Rattle.sstable_blocks.proofs.delta_reader.DeltaReader.advance.Goals as goal
 
 pub returns-clause-entries : goal.returns-clause-entries
-returns-clause-entries g c = gives_first _ _ _ _ c.advance_onward.ensures
+returns-clause-entries g c =
+    let new = sliced g.T.ValueReader.loaded c.advance.new.self in
+    gives_placed g.T.ValueReader.codec c.args.self.now new c.advance.result
+    (subst (λ old. AnswersFinal old new c.advance.result) c.self.view_is c.advance.ensures.for_good)
+    c.advance.ensures.stays
+    (subst (λ old. old.final ≡ None → Steps g.T.ValueReader.codec old new c.advance.result) c.self.view_is c.advance.ensures.step)
 
-pub returns-clause-current : goal.returns-clause-current
-returns-clause-current g c =
-    advances_current g.T.ValueReader.codec (walk g.T.ValueReader.loaded c.args.self.now) (walk g.T.ValueReader.loaded c.advance_onward.new.self) c.advance_onward.result c.advance_onward.ensures
+pub returns-clause-run : goal.returns-clause-run
+returns-clause-run g c =
+    let new = sliced g.T.ValueReader.loaded c.advance.new.self in
+    gives_here g.T.ValueReader.codec c.args.self.now new c.advance.result
+    (subst (λ old. AnswersFinal old new c.advance.result) c.self.view_is c.advance.ensures.for_good)
+    c.advance.ensures.stays
+    (subst (λ old. old.final ≡ None → Steps g.T.ValueReader.codec old new c.advance.result) c.self.view_is c.advance.ensures.step)

@@ -1,5 +1,5 @@
 use Rattle.std.proofs.Common.{◌≡◌, ◌∙◌, ap, not, [], ◌∷◌, ◌++◌, length, ◌==◌, cond}
-use Rattle.tantivy_common.specs.Path.{pushed}
+use Rattle.tantivy_common.specs.Path.{pushed, popped}
 use Rattle.tantivy_common.proofs.Paths.{push_keeps, push_before, push_text, ok_unless_err}
 use Rattle.tantivy_common.proofs.json_path_writer.JsonPathWriter.push.Goals as goal
 
@@ -26,3 +26,6 @@ returns-clause-ok c =
     push_before c.self.inside.path.items c.self.inside.indices.items c.append.new.path.items c.push.new.self.items c.args.segment.now (not c.is_empty-separated.result) c.self.inside.expand_dots
     c.self.invariant c.utf8.segment (apart c) c.in_ok-append.ensures.ok (stacked c) in
     (λ i. record { text = text i; before = before i; expand_dots = c.self.inside.expand_dots }) ∙ ap (λ p. pushed p c.args.segment.now) c.self.view_is
+
+pub returns-clause-undone : goal.returns-clause-undone
+returns-clause-undone c = ap popped (returns-clause-ok c)

@@ -1,0 +1,15 @@
+pub mod Joined
+pub mod Fields
+pub mod Leaves
+pub mod Chains
+pub mod Bounds
+pub mod Trees
+pub mod Values
+pub mod FoundLeaves
+pub mod Characters
+pub mod DeepTrees
+pub mod PrintedLaw
+pub mod Depths
+pub mod Digits
+pub mod Pushed
+pub mod Sizes

@@ -1,0 +1,8 @@
+use Rattle.std.specs.Str.{chars}
+use Rattle.query_tree.specs.Printing.{printed, printed_field, printed_text}
+use Rattle.printed_queries.proofs.Pushed.{then_piece}
+use Rattle.printed_queries.proofs.print.push_term.Goals as goal
+
+pub returns : goal.returns
+unfolding printed
+returns c = then_piece _ _ _ (printed_field (chars c.args.field.now)) (printed_text (chars c.args.text.now)) c.in_ok-push_field.ensures c.in_ok-push_text.ensures

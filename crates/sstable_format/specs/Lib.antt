@@ -1,0 +1,11 @@
+pub mod Meta
+pub mod Store
+pub mod Footer
+pub mod Index
+pub mod Version
+pub mod Table
+pub mod Ending
+pub mod Refused
+pub mod Entries
+pub mod Computes
+pub mod Rows

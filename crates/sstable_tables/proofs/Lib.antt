@@ -1,0 +1,5 @@
+pub mod ReaderLaws
+pub mod Gathering
+pub mod Gathered
+pub mod Finishing
+pub mod RangeTables

@@ -1,0 +1,5 @@
+pub mod Making
+pub mod Laws
+pub mod Reading
+pub mod Errors
+pub mod Made

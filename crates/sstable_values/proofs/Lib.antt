@@ -1,0 +1,4 @@
+pub mod VintLaws
+pub mod RisingLaws
+pub mod RangeLaws
+pub mod Rows

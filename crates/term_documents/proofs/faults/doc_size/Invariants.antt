@@ -1,7 +1,0 @@
-use Rattle.std.proofs.Common.{◌≡◌, take, min, ◌^◌, ◌-◌}
-use Rattle.std.specs.Prelude.{sum_by}
-use Rattle.term_documents.specs.Documents.{pair_size}
-use Rattle.term_documents.proofs.faults.doc_size.Given as goal
-
-abbrev pub invariant-loop-pair : goal.invariant-loop-pair
-invariant-loop-pair l = l.total ≡ min (sum_by pair_size (take l.pair-index l.pair-items)) (2 ^ 64 - 1)

@@ -1,5 +1,0 @@
-use Rattle.term_documents.proofs.PrintedLaw as law
-use Rattle.term_documents.proofs.law.printed_means_the_same.Goals as goal
-
-pub returns : goal.returns
-returns c = record { means_the_same = law.printed_means_the_same; too_deep = law.printed_too_deep }

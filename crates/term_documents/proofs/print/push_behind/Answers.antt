@@ -1,7 +1,0 @@
-use Rattle.std.specs.Prelude.{◌∷◌, []}
-use Rattle.std.specs.Str.{chars}
-use Rattle.term_documents.proofs.Pushed.{then_piece}
-use Rattle.term_documents.proofs.print.push_behind.Goals as goal
-
-pub returns : goal.returns
-returns c = then_piece _ _ _ (chars c.args.text.now) (c.args.c ∷ []) c.in_ok-push_plain.ensures c.in_ok-push_char.ensures

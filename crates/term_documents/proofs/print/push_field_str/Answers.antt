@@ -1,9 +1,0 @@
-use Rattle.std.specs.Prelude.{◌∷◌, []}
-use Rattle.std.specs.Str.{chars}
-use Rattle.term_documents.specs.Escapes.{escapes}
-use Rattle.term_documents.specs.declared.print.Place.TheVariants.{Field}
-use Rattle.term_documents.proofs.Pushed.{then_piece}
-use Rattle.term_documents.proofs.print.push_field_str.Goals as goal
-
-pub returns : goal.returns
-returns c = then_piece _ _ _ (escapes Field (chars c.args.field.now)) (58 ∷ []) c.in_ok-push_escaped.ensures c.in_ok-push_char.ensures

@@ -1,9 +1,0 @@
-use Rattle.std.specs.Prelude.{codes}
-use Rattle.std.specs.Str.{chars}
-use Rattle.query_tree.specs.Printing.{printed_field, printed_text}
-use Rattle.term_documents.proofs.Pushed.{then_piece}
-use Rattle.term_documents.proofs.print.push_prefix.Goals as goal
-
-pub returns : goal.returns
-returns c = then_piece _ _ _ (printed_field (chars c.args.field.now)) _ c.in_ok-push_field.ensures
-    (then_piece _ _ _ (printed_text (chars c.args.text.now)) (codes "*") c.in_ok-push_text.ensures c.in_ok-push_char.ensures)
