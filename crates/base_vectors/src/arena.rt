@@ -1,6 +1,7 @@
 // Worked rows.
 ghost use Rattle.std.specs.Prelude.{OnOk};
 ghost use Rattle.tantivy_stacker.specs.Beside.{AreBeside};
+ghost use Rattle.tantivy_stacker.specs.Lists.{IsHeld};
 
 use std::alloc::{AllocError, Global};
 use std::test::Fail;
@@ -44,6 +45,33 @@ fn parts_of_a_list(rt: HostRuntime) -> Result<(), Fail> {
     Ok(())
 }
 
+fn write_both(
+    arena: &mut MemoryArena,
+    list: &mut ExpUnrolledLinkedList,
+    bytes: &[u8],
+    number: u32,
+) -> Result<(), ArenaError>
+    requires { IsHeld arena.old list.old }
+    ensures { OnOk result (IsHeld arena.new list.new) }
+{
+    let mut writer = list.writer(arena);
+    writer.extend_from_slice(bytes)?;
+    writer.write_u32_vint(number)
+}
+
+// 300 takes two bytes.
+#[test]
+fn bytes_and_a_number_through_a_writer(rt: HostRuntime) -> Result<(), Fail> {
+    list_laws();
+    let mut arena = MemoryArena::new(rt.alloc())?;
+    let mut list = ExpUnrolledLinkedList::default();
+    write_both(&mut arena, &mut list, &[1, 2], 300)?;
+    let mut bytes = Vec::new(rt.alloc());
+    list.read_to_end(&arena, &mut bytes)?;
+    assert_eq!(rt; bytes.as_slice(), [1, 2, 0x2c, 0x82].as_slice());
+    Ok(())
+}
+
 #[test]
 fn a_key_that_begins_another(rt: HostRuntime) -> Result<(), Fail> {
     let mut map: ArenaHashMap<u32> = ArenaHashMap::new(rt.alloc())?;
@@ -81,6 +109,29 @@ fn two_keys_of_one_hash(rt: HostRuntime) -> Result<(), Fail> {
     map.mutate_or_create(b"k281721", |_| 2)?;
     assert_eq!(rt; map.get(b"k119618"), Some(1));
     assert_eq!(rt; map.get(b"k281721"), Some(2));
+    Ok(())
+}
+
+// A table of four places doubles at the call that finds two entries in it.
+#[test]
+fn a_table_doubles_when_half_full(rt: HostRuntime) -> Result<(), Fail> {
+    let mut arena = MemoryArena::new(rt.alloc())?;
+    let mut map: SharedArenaHashMap<u32> = SharedArenaHashMap::with_capacity(rt.alloc(), 4)?;
+    map.mutate_or_create(b"a", &mut arena, |_| 1)?;
+    map.mutate_or_create(b"b", &mut arena, |_| 2)?;
+    assert_eq!(rt; map.mem_usage(), 4 * 8);
+    map.mutate_or_create(b"b", &mut arena, |_| 3)?;
+    assert_eq!(rt; map.mem_usage(), 8 * 8);
+    assert_eq!(rt; map.len(), 2);
+    Ok(())
+}
+
+#[test]
+fn a_map_of_sixty_four_places(rt: HostRuntime) -> Result<(), Fail> {
+    let mut map: ArenaHashMap<u32> = ArenaHashMap::with_capacity(rt.alloc(), 100)?;
+    map.mutate_or_create(b"a", |_| 1)?;
+    assert_eq!(rt; map.mem_usage(), 64 * 8 + 1_048_576);
+    assert_eq!(rt; map.iter().count(), 1);
     Ok(())
 }
 

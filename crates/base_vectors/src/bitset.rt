@@ -22,6 +22,8 @@ fn set_in_bytes(rt: HostRuntime) -> Result<(), Fail> {
     assert!(rt; set.insert(1));
     assert!(rt; set.insert(69));
     assert!(rt; !set.insert(69));
+    let elements: Vec<u32> = set.iter().collect(rt.alloc())?;
+    assert_eq!(rt; elements.as_slice(), [1, 69].as_slice());
     let mut sink = VecSink::new(rt.alloc());
     set.serialize(&mut sink)?;
     assert_eq!(rt; sink.bytes(), SEVENTY.as_slice());

@@ -1,5 +1,5 @@
 // Sets by their lists.
-use document_sets::{DocSet, JoinedSets};
+use document_sets::{DocSet, FoundDocuments, JoinedSets};
 use std::test::Fail;
 
 #[test]
@@ -50,5 +50,14 @@ fn joined_sets(rt: HostRuntime) -> Result<(), Fail> {
         [0, 2, 3].as_slice()
     );
     assert_eq!(rt; JoinedSets::new(4).into_set().to_ids(alloc)?.len(), 0);
+    Ok(())
+}
+
+#[test]
+fn found_documents_as_a_list(rt: HostRuntime) -> Result<(), Fail> {
+    let alloc = rt.alloc();
+    let found = FoundDocuments::from_set(DocSet::from_numbers(alloc, 4, &[0, 3])?);
+    assert_eq!(rt; found.documents(), 4);
+    assert_eq!(rt; found.into_ids(alloc)?.as_slice(), [0, 3].as_slice());
     Ok(())
 }

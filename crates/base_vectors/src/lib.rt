@@ -4,9 +4,9 @@
 #[cfg(test)]
 mod arena;
 #[cfg(test)]
-mod automata;
-#[cfg(test)]
 mod bitset;
+#[cfg(test)]
+mod bounds;
 #[cfg(test)]
 mod dates;
 #[cfg(test)]

@@ -79,6 +79,14 @@ fn a_failed_write_leaves_the_packer(rt: HostRuntime) -> Result<(), Fail> {
     Ok(())
 }
 
+// Of the numbers 1 to 4 in four bits each, the second and the third.
+#[test]
+fn numbers_in_a_vector(rt: HostRuntime) -> Result<(), Fail> {
+    let numbers = BitUnpacker::new(4).numbers_u32(rt.alloc(), 1, 2, &[0x21, 0x43])?;
+    assert_eq!(rt; numbers.as_slice(), [2, 3].as_slice());
+    Ok(())
+}
+
 // The numbers from `start` on, decoded fast and plainly, and their ids.
 fn fast_is_plain(
     rt: &impl Abort,

@@ -30,10 +30,14 @@ pub record IsField (field : List ℕ) : Type 0 where
 abbrev pub key_length : Pair → ℕ
 key_length pair = length pair.field + 1 + length pair.term
 
+-- how many bytes a key may have
+abbrev pub longest_key : ℕ
+longest_key = 65535
+
 -- a pair that an index can keep
 pub record IsValidPair (pair : Pair) : Type 0 where
   pub field : IsField pair.field
-  pub short : key_length pair ≤ 65535
+  pub short : key_length pair ≤ longest_key
 
 -- documents that an index can keep
 pub record AreValidDocuments (docs : List Doc) : Type 0 where
@@ -45,7 +49,7 @@ abbrev pub is_field : List ℕ → Bool
 is_field field = not (length field == 0) && list_all (λ byte. nat_lt 1 byte) field
 
 abbrev pub is_short : Pair → Bool
-is_short pair = nat_le (key_length pair) 65535
+is_short pair = nat_le (key_length pair) longest_key
 
 -- what keeps a pair out of an index: its field before its length
 abbrev pub fault_of : Pair → Option Fault

@@ -43,7 +43,7 @@ pub fn is_field(field: &str) -> bool
 
 fn is_short(pair: &Pair) -> bool
     ensures value { result ≡ spec.is_short pair.now }
-    ensures fact { IsTrue result ↔ (spec.key_length pair.now ≤ 65535) }
+    ensures fact { IsTrue result ↔ (spec.key_length pair.now ≤ spec.longest_key) }
 {
     pair.field.len() < KEY_LIMIT && pair.term.len() <= KEY_LIMIT - 1 - pair.field.len()
 }

@@ -1,3 +1,9 @@
 pub mod Machines
 pub mod Fronts
 pub mod Building
+pub mod Opening
+pub mod Bytes
+pub mod TakenWithin
+pub mod Tight
+pub mod Turns
+pub mod Searching

@@ -24,19 +24,21 @@ takes machine key = machine.is_match (after machine machine.start key)
 abbrev pub AreBytes : List ℕ → Type 0
 AreBytes bytes = All (λ byte. byte < 256) bytes
 
--- Where it says that it can't match, it never does from there on. Where it says that it always will, it always does.
+-- Where it has come to and says that it can't match, it takes no key that goes on from there. Where it says that it
+-- always will, it takes each.
 abbrev pub IsLawful : {S : Type 0} → Machine S → Type 0
-IsLawful {S} machine = (state : S) (bytes : List ℕ) → AreBytes bytes →
-    (machine.can_match state ≡ false → machine.is_match (after machine state bytes) ≡ false)
-    × (machine.will_always_match state ≡ true → machine.is_match (after machine state bytes) ≡ true)
+IsLawful machine = (front back : List ℕ) → AreBytes front → AreBytes back →
+    (machine.can_match (after machine machine.start front) ≡ false → takes machine (front ++ back) ≡ false)
+    × (machine.will_always_match (after machine machine.start front) ≡ true → takes machine (front ++ back) ≡ true)
 
 -- it doesn't take every key at once
 abbrev pub IsPruning : {S : Type 0} → Machine S → Type 0
 IsPruning machine = machine.will_always_match machine.start ≡ false
 
--- It is lawful, and wherever it comes to and says that it can match, some bytes lead to a match.
+-- It is lawful, and where it has come to and says that it can match, it takes some key that goes on from there.
 abbrev pub IsTight : {S : Type 0} → Machine S → Type 0
-IsTight machine = IsLawful machine × ((front : List ℕ) → AreBytes front → machine.can_match (after machine machine.start front) ≡ true →
+IsTight machine = IsLawful machine × ((front : List ℕ) → AreBytes front →
+    machine.can_match (after machine machine.start front) ≡ true →
     (back : List ℕ) × AreBytes back × (takes machine (front ++ back) ≡ true))
 
 -- the machine takes exactly the keys that pass the test
@@ -59,6 +61,10 @@ either one other key = one key || other key
 -- the third machine takes what one of two machines takes, whatever they take
 abbrev pub TakesEither : {S T U : Type 0} → Machine S → Machine T → Machine U → Type 0
 TakesEither left right joined = (one other : Key → Bool) → Takes left one → Takes right other → Takes joined (either one other)
+
+-- the third machine is tight where both are
+abbrev pub IsTightWithBoth : {S T U : Type 0} → Machine S → Machine T → Machine U → Type 0
+IsTightWithBoth left right joined = IsTight left → IsTight right → IsTight joined
 
 -- the machine that takes every key
 abbrev pub always : Machine (Unit {0})

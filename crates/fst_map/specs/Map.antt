@@ -1,5 +1,6 @@
 -- A map from keys to numbers: how many, an end and a value for each key, and the keys one after the other.
-use Rattle.std.specs.Prelude.{ℕ, ◌-◌, List, [], ◌∷◌, length, map, Bool, true, Option, Some, None, nat_le, ◌==◌}
+use Rattle.std.specs.Prelude.{ℕ, ◌-◌, List, [], ◌∷◌, length, map, slice_index_or, Bool, true, not, Option, Some, None, nat_le, ◌==◌}
+use Rattle.std.specs.List.{position}
 use Rattle.std.specs.Int.{w64}
 use Rattle.owned_bytes.specs.Front.{Reading, ◌>>=◌, provided, number_at, bytes_at, counted}
 use Rattle.owned_bytes.specs.Keys.{Key, is_below, is_rising}
@@ -48,6 +49,14 @@ last_key (entry ∷ next ∷ entries) = last_key (next ∷ entries)
 abbrev pub may_follow : Option Key → Key → Bool
 may_follow None key = true
 may_follow (Some before) key = is_below before key
+
+-- the entry at a place; past the last one the empty key and 0
+abbrev pub entry_at : List (Key × ℕ) → ℕ → Key × ℕ
+entry_at entries place = slice_index_or entries place ([], 0)
+
+-- the place of the first entry whose key is not below this one, where there is such an entry
+abbrev pub first_at_or_above : Key → List (Key × ℕ) → Option ℕ
+first_at_or_above key entries = position (λ entry. not (is_below entry.0 key)) entries
 
 -- A line 'unfolding computes' lets the definitions of this crate compute.
 unfoldable pub computes : Unit {0}

@@ -1,6 +1,6 @@
 // Machines that read byte strings byte by byte.
 ghost use Rattle.std.specs.Prelude.{◌≡◌};
-ghost use Rattle.fst_map.specs.Automaton.{Machine, IsLawful, Takes, TakesEither, only, beginning_with, always, exact, prefixed, joint};
+ghost use Rattle.fst_map.specs.Automaton.{Machine, IsLawful, IsTight, IsTightWithBoth, Takes, TakesEither, every_key, only, beginning_with, always, exact, prefixed, joint};
 
 /// A machine that reads a byte string byte by byte, and says which it takes.
 pub trait Automaton {
@@ -35,6 +35,14 @@ pub trait Automaton {
 /// Takes every key.
 #[derive(Clone, Copy, Debug)]
 pub struct AlwaysMatch;
+
+/// The laws of `AlwaysMatch`, which has no constructor: it takes every key, and is tight.
+pub fn always_match_laws(automaton: &AlwaysMatch)
+    ensures language { Takes (⟦<AlwaysMatch as Automaton>⟧.machine automaton.now) every_key }
+    ensures tight { IsTight (⟦<AlwaysMatch as Automaton>⟧.machine automaton.now) }
+{
+    let _ = automaton;
+}
 
 impl Automaton for AlwaysMatch {
     ghost use Rattle.fst_map.specs.Machines.{always-lawful};
@@ -71,7 +79,8 @@ pub struct Exact<'a> {
 impl<'a> Exact<'a> {
     /// Takes this key.
     pub fn new(key: &'a [u8]) -> Exact<'a>
-        ensures { Takes (⟦<Exact<'a> as Automaton>⟧.machine result) (only key.now) }
+        ensures language { Takes (⟦<Exact<'a> as Automaton>⟧.machine result) (only key.now) }
+        ensures tight { IsTight (⟦<Exact<'a> as Automaton>⟧.machine result) }
     {
         Exact { key }
     }
@@ -123,7 +132,8 @@ pub struct StartsWith<'a> {
 impl<'a> StartsWith<'a> {
     /// Takes the keys that begin with this prefix.
     pub fn new(prefix: &'a [u8]) -> StartsWith<'a>
-        ensures { Takes (⟦<StartsWith<'a> as Automaton>⟧.machine result) (beginning_with prefix.now) }
+        ensures language { Takes (⟦<StartsWith<'a> as Automaton>⟧.machine result) (beginning_with prefix.now) }
+        ensures tight { IsTight (⟦<StartsWith<'a> as Automaton>⟧.machine result) }
     {
         StartsWith { prefix }
     }
@@ -178,7 +188,8 @@ pub struct Union<A, B> {
 impl<A: Automaton, B: Automaton> Union<A, B> {
     /// Takes what `left` or `right` takes.
     pub fn new(left: A, right: B) -> Union<A, B>
-        ensures { TakesEither (A.machine left) (B.machine right) (⟦<Union<A, B> as Automaton>⟧.machine result) }
+        ensures language { TakesEither (A.machine left) (B.machine right) (⟦<Union<A, B> as Automaton>⟧.machine result) }
+        ensures tight { IsTightWithBoth (A.machine left) (B.machine right) (⟦<Union<A, B> as Automaton>⟧.machine result) }
     {
         Union { left, right }
     }

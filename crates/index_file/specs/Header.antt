@@ -11,6 +11,10 @@ pub record Header : Type 0 where
   pub count : ℕ
   pub packed : List ℕ
 
+-- how many bytes the two counts at the front of a file take
+abbrev pub header_len : ℕ
+header_len = 12
+
 -- the width of the numbers of so many documents
 abbrev pub width_of : ℕ → ℕ
 width_of documents = num_bits (documents - 1)

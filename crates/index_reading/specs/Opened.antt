@@ -4,7 +4,7 @@ use Rattle.owned_bytes.specs.Front.{◌>>=◌}
 use Rattle.sstable_values.specs.Codec.{range}
 use Rattle.tantivy_sstable.specs.Opened.{entries_in}
 use Rattle.documents.specs.Postings.{Postings}
-use Rattle.index_file.specs.Header.{Header, packed_length}
+use Rattle.index_file.specs.Header.{Header, header_len, packed_length}
 use Rattle.index_file.specs.IndexFile.{postings_of, is_increasing}
 use Rattle.index_reading.specs.declared.open.OpenIndex.{OpenIndex}
 
@@ -13,7 +13,7 @@ abbrev pub header_of : OpenIndex → List ℕ → Header
 header_of index file = record {
   documents = index.documents;
   count = index.count;
-  packed = take (packed_length index.documents index.count) (drop 12 file);
+  packed = take (packed_length index.documents index.count) (drop header_len file);
 }
 
 -- the keys of the dictionary with their numbers, where these make up an index
@@ -28,7 +28,7 @@ postings_told index contents = option_and_then (postings_in index) contents
 
 -- what the index knows lies within a file of so many bytes
 pub record LiesIn (index : OpenIndex) (size : ℕ) : Type 0 where
-  pub packed : 12 + packed_length index.documents index.count ≤ size
+  pub packed : header_len + packed_length index.documents index.count ≤ size
   pub blocks : index.dictionary.blocks_range.end ≤ size
 
 -- numbers of documents, of which there are so many, in rising order

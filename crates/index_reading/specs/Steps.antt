@@ -2,8 +2,9 @@
 use Rattle.std.specs.Prelude.{◌≡◌, ℕ, ◌+◌, ◌≤◌, List, length, take, drop, true, false, Some, ⊤, IfSome, Result, Ok, Err}
 use Rattle.std.specs.Int.{w32, w64, from_le_bytes}
 use Rattle.owned_bytes.specs.Outside.{FileState, LeavesFile}
+use Rattle.sstable_format.specs.Footer.{footer_len}
 use Rattle.sstable_format.specs.Version.{has_known_version, has_unknown_version}
-use Rattle.index_file.specs.Header.{Header, header_at, packed_length}
+use Rattle.index_file.specs.Header.{Header, header_len, header_at, packed_length}
 use Rattle.index_reading.specs.declared.errors.IndexError.{IndexError}
 use Rattle.index_reading.specs.declared.errors.IndexError.TheVariants.{Memory, Read, Corrupt, Compressed, Version, NotYet}
 use Rattle.index_reading.specs.Opening.{HasOtherVersion, index_part_in}
@@ -31,7 +32,7 @@ pub record HasHead (documents count : ℕ) (file : List ℕ) : Type 0 where
 -- the header of these numbers, with the packed numbers that the file has behind it
 abbrev pub header_in : ℕ → ℕ → List ℕ → Header
 header_in documents count file =
-    record { documents = documents; count = count; packed = take (packed_length documents count) (drop 12 file) }
+    record { documents = documents; count = count; packed = take (packed_length documents count) (drop header_len file) }
 
 -- the file is of a known version, and its table begins at a place behind a header of these numbers
 pub record HasTable (documents count start : ℕ) (file : List ℕ) : Type 0 where
@@ -43,4 +44,4 @@ pub record HasTable (documents count start : ℕ) (file : List ℕ) : Type 0 whe
 pub record ReadsTable (before now : FileState) (failure : Type 0) : Type 0 where
   pub leaves : LeavesFile before now failure
   pub reads : now.reads ≤ before.reads + 2
-  pub fetched : IfSome before.contents (λ file. now.fetched ≤ before.fetched + (20 + length (index_part_in file)))
+  pub fetched : IfSome before.contents (λ file. now.fetched ≤ before.fetched + (footer_len + length (index_part_in file)))

@@ -3,6 +3,7 @@ ghost use Rattle.std.specs.Prelude.{◌≡◌, ◌-◌, ◌+◌, ◌*◌, ◌/�
 ghost use Rattle.owned_bytes.specs.Outside.{LeavesFile};
 ghost use Rattle.tantivy_bitpacker.specs.Packed.{bytes_for};
 ghost use Rattle.index_file.specs.Header as spec;
+ghost use Rattle.index_file.specs.Header.{header_len};
 ghost use Rattle.index_reading.specs.Errors.{ReadFailed};
 ghost use Rattle.index_reading.specs.Opened.{LiesIn, postings_told, AreNumbers};
 ghost use Rattle.index_reading.specs.LookUp.{LooksUpTold, IsLookUpError, NamesCompressed, FetchesNumbers, GivesPlaces, IsPartError, ArePlaces, ReadsNumbers};
@@ -100,9 +101,9 @@ fn packed_width(documents: u32) -> u8
 
 // Where so many numbers from the place `start` on are packed in a file of so many bytes, from a group of eight on.
 fn packed_part(width: u8, start: u64, count: u32, size: usize) -> Range<usize>
-    requires { 12 + bytes_for ((start + count) * width) ≤ size }
-    ensures start { result.start ≡ 12 + start / 8 * width }
-    ensures end { result.end ≡ 12 + start / 8 * width + bytes_for ((start % 8 + count) * width) }
+    requires { header_len + bytes_for ((start + count) * width) ≤ size }
+    ensures start { result.start ≡ header_len + start / 8 * width }
+    ensures end { result.end ≡ header_len + start / 8 * width + bytes_for ((start % 8 + count) * width) }
 {
     let from = HEADER_LEN + (start / 8) as usize * width as usize;
     let bits = ((start % 8) as u128 + count as u128) * width as u128;

@@ -1,7 +1,7 @@
 // Opening an index file.
 ghost use Rattle.std.specs.Prelude.{◌≡◌, ◌<◌, ◌≤◌, ◌+◌, length, IfOk, IfErr, IfSome, IfNone, Err};
 ghost use Rattle.owned_bytes.specs.Outside.{LeavesFile, ReadsFile};
-ghost use Rattle.index_file.specs.Header.{packed_length};
+ghost use Rattle.index_file.specs.Header.{header_len, packed_length};
 ghost use Rattle.index_reading.specs.Errors.{IsReadError, ReadFailed};
 ghost use Rattle.index_reading.specs.Opened.{LiesIn};
 ghost use Rattle.index_reading.specs.Opening.{OpensTold, FetchesOpening};
@@ -100,7 +100,7 @@ fn read_head<H: FileHandle>(alloc: Global, handle: &mut H) -> Result<Head, Index
 
 // The numbers of the first bytes.
 fn head_of(mut bytes: OwnedBytes) -> Head
-    requires { length bytes ≡ 12 }
+    requires { length bytes ≡ header_len }
     ensures { HasHead result.documents result.count bytes }
 {
     Head {
@@ -112,9 +112,9 @@ fn head_of(mut bytes: OwnedBytes) -> Head
 // Where the table begins in a file of so many bytes, if it does.
 fn table_start(documents: u32, count: u64, size: usize) -> Option<usize>
     requires { HEADER_LEN ≤ size }
-    ensures some { IfSome result (λ start. start ≡ 12 + packed_length documents count) }
+    ensures some { IfSome result (λ start. start ≡ header_len + packed_length documents count) }
     ensures fits { IfSome result (λ start. start ≤ size) }
-    ensures none { IfNone result (size < 12 + packed_length documents count) }
+    ensures none { IfNone result (size < header_len + packed_length documents count) }
 {
     let packed = (count as u128 * width_of(documents) as u128 + 7) / 8;
     if packed > (size - HEADER_LEN) as u128 {
@@ -139,7 +139,7 @@ fn open_table<H: FileHandle>(
     head: Head,
     start: usize,
 ) -> Result<OpenIndex, IndexError>
-    requires begins { start ≡ 12 + packed_length head.documents head.count }
+    requires begins { start ≡ header_len + packed_length head.documents head.count }
     requires fits { start ≤ (H.state handle.old).size }
     requires told { IfSome (H.state handle.old).contents (HasTable head.documents head.count start) }
     ensures opens { OpensTold (H.state handle.old).contents result }

@@ -1,6 +1,6 @@
 -- Why a writer of ranges takes every entry that may come next, and finishes every block that is small enough.
-use Rattle.std.proofs.Common.{◌≡◌, ℕ, suc, ◌+◌, ◌<◌, ◌≤◌, true, List, [], ◌∷◌, ◌++◌, length, Option, Some, Result, Ok, Err, refl, sym, ap, subst, ◌∙◌, arith, take, drop, get_or, drop-cons, append-nil, length-append}
-use Rattle.std.specs.Prelude.{◌*◌, ◌^◌, OnOk, IsOk, IfOk, IfSome, map, option_map}
+use Rattle.std.proofs.Common.{◌≡◌, ℕ, suc, ◌+◌, ◌<◌, ◌≤◌, true, List, [], ◌∷◌, ◌++◌, length, Option, Some, None, Result, Ok, Err, ⊎_elim, refl, sym, ap, subst, ◌∙◌, arith, take, drop, get_or, drop-cons, append-nil, length-append}
+use Rattle.std.specs.Prelude.{◌*◌, ◌^◌, OnOk, IsOk, IfOk, IfSome, map}
 use Rattle.std.proofs.lemmas.Bool.{and_parts, eq-eqb, false≢true}
 use Rattle.std.proofs.lemmas.Grind.{flat_map-append}
 use Rattle.std.proofs.lemmas.List.{take_more, take-append-drop}
@@ -12,13 +12,12 @@ use Rattle.owned_bytes.specs.Outside.{HasCause}
 use Rattle.owned_bytes.proofs.InTurn.{never_fails}
 use Rattle.sstable_values.specs.Codec.{range}
 use Rattle.sstable_values.specs.Range.{ends_at}
-use Rattle.sstable_blocks.specs.Run.{last_key, entries_of}
-use Rattle.sstable_format.specs.Table.{sst_of}
+use Rattle.sstable_blocks.specs.Run.{Block, last_key}
 use Rattle.sstable_tables.specs.Laws.{HasGathered, keys_size, values_in}
-use Rattle.sstable_tables.specs.Making.{Making, IsTaken, Adds, Refuses, IsTooLong, StopsTable, AppendsTable, inserted, may_come}
+use Rattle.sstable_tables.specs.Making.{Making, IsTaken, Adds, Refuses, IsTooLong, StopsTable, AppendsTable, IsTable, bytes_of, content_of, ending, if_any, may_come}
 use Rattle.sstable_tables.proofs.Gathered.{gathered-more}
-use Rattle.sstable_tables.specs.declared.errors.SstWriteError.{SstWriteError}
-use Rattle.sstable_tables.specs.declared.errors.SstWriteError.TheVariants.{Memory, Write, Unsorted, ValueRefused, BlockTooLong, Spent}
+use Rattle.sstable_index.specs.declared.write_errors.SstWriteError.{SstWriteError}
+use Rattle.sstable_index.specs.declared.write_errors.SstWriteError.TheVariants.{Memory, Write, Unsorted, ValueRefused, BlockTooLong, Spent}
 use Rattle.sstable_tables.proofs.RangeTables.{short-fit, adjoining-taken}
 use Rattle.index_writing.specs.Emitting.{numbers_of_all, GainsTable}
 unfoldable use Rattle.index_writing.specs.Emitting.{ranged}
@@ -27,13 +26,16 @@ pub on-ok : {T E : Type 0} (r : Result T E) (P : Type 0) → OnOk r P → IsOk r
 on-ok (Ok x) P p is = p
 on-ok (Err e) P p is = absurd cc
 
+none-or-some : {A : Type 0} (o : Option A) (x : A) → o ≡ None → o ≡ Some x → ⊥
+none-or-some o x none some = absurd cc
+
 pub not-refused : {W : Type 0} (w : Making W (Range ℕ)) (key : Key) (places : Range ℕ) (e : SstWriteError) → IsTaken range w key places → Refuses range w key places e → (e ≡ Memory → ⊥) → ⊥
 not-refused w key places Memory taken refuses other = other refl
 not-refused w key places Write taken refuses other = refuses
-not-refused w key places Unsorted taken refuses other = absurd (false≢true (sym refuses ∙ taken.after))
-not-refused w key places ValueRefused taken refuses other = absurd (false≢true (sym refuses.1 ∙ taken.accepted))
-not-refused w key places BlockTooLong taken refuses other = refuses
-not-refused w key places Spent taken refuses other = refuses
+not-refused w key places Unsorted taken refuses other = absurd (false≢true (sym refuses.1 ∙ taken.after))
+not-refused w key places ValueRefused taken refuses other = absurd (false≢true (sym refuses.2 ∙ taken.accepted))
+not-refused w key places BlockTooLong taken refuses other = none-or-some w.refusal BlockTooLong taken.ready refuses
+not-refused w key places Spent taken refuses other = none-or-some w.refusal Spent taken.ready refuses
 
 -- the same of a copy of the key
 pub not-refused-at : {W : Type 0} (w : Making W (Range ℕ)) (key copy : Key) (places : Range ℕ) (e : SstWriteError)
@@ -43,14 +45,15 @@ not-refused-at w key copy places e same taken refuses other = not-refused w key 
 pub adds-at : {W : Type 0} (old new : Making W (Range ℕ)) (key copy : Key) (places : Range ℕ) → copy ≡ key → Adds old new copy places → Adds old new key places
 adds-at old new key copy places same adds = subst (λ k. Adds old new k places) same adds
 
-pub not-stopped : {W : Type 0} (told : W → Option (List ℕ)) (w : Making W (Range ℕ)) (sink : W) (e : SstWriteError) (P : Type 0) → (IsTooLong range w → ⊥)
+pub not-stopped : {W : Type 0} (told : W → Option (List ℕ)) (w : Making W (Range ℕ)) (sink : W) (e : SstWriteError) (P : Type 0) → w.refusal ≡ None → (IsTooLong range w → ⊥)
     → StopsTable range w (told w.sink) (told sink) e → HasCause 0 0 P → (e ≡ Write → P) → (e ≡ Memory → ⊥) → ⊥
-not-stopped told w sink Memory P short stops cause by other = other refl
-not-stopped told w sink Write P short stops cause by other = never_fails P cause (by refl)
-not-stopped told w sink Unsorted P short stops cause by other = stops
-not-stopped told w sink ValueRefused P short stops cause by other = stops
-not-stopped told w sink BlockTooLong P short stops cause by other = short stops.0
-not-stopped told w sink Spent P short stops cause by other = stops
+not-stopped told w sink Memory P ready short stops cause by other = other refl
+not-stopped told w sink Write P ready short stops cause by other = never_fails P cause (by refl)
+not-stopped told w sink Unsorted P ready short stops cause by other = stops
+not-stopped told w sink ValueRefused P ready short stops cause by other = stops
+not-stopped told w sink BlockTooLong P ready short stops cause by other =
+    ⊎_elim (λ before. none-or-some w.refusal BlockTooLong ready before) (λ now. short now.1) stops.0
+not-stopped told w sink Spent P ready short stops cause by other = none-or-some w.refusal Spent ready stops.0
 
 -- ---- a key with the places of its numbers, one after the other
 
@@ -95,6 +98,7 @@ is-taken w sink ps i p start end has within at rising from to =
     let follows = ranged-follows 0 (take i ps) p (drop (i + 1) ps) (ap (λ xs. is_rising (map (λ (posting : Key × List ℕ). posting.0) xs)) (sym (split-at ps i p within at)) ∙ rising) in
     let adjoins = ap (λ n. ends_at (values_in (ranged 0 (take i ps))) n) (from ∙ omega arith) ∙ ranged-ends 0 (take i ps) in
     record {
+      ready = has.ready;
       after = ap (λ o. may_come o p.0) has.last ∙ follows;
       accepted = adjoining-taken w sink (ranged 0 (take i ps)) (record { start = start; end = end }) has (omega (arith, to)) adjoins;
     }
@@ -124,15 +128,26 @@ pub not-long : {W : Type 0} (w : Making W (Range ℕ)) (sink : W) (entries : Lis
     → keys_size entries + 31 * length entries + 21 < 2 ^ 32 → IsTooLong range w → ⊥
 not-long w sink entries has small long = short-fit w sink entries has small long
 
+abbrev block_with : {V : Type 0} → List ℕ → List (Key × V) → Block V
+block_with content entries = record { content = content; entries = entries }
+
+-- of the open block there is at most one
+one-block : {V : Type 0} (entries : List (Key × V)) (content : List ℕ) → length (if_any entries (block_with content entries)) ≤ 1
+one-block [] content = omega arith
+one-block (entry ∷ entries) content = omega arith
+
+of_some : {A : Type 0} (P : A → Type 0) (o : Option A) (x : A) → o ≡ Some x → IfSome o P → P x
+of_some P o x some p = subst (λ q. IfSome q P) some p
+
 pub gains-table : {E : Type 0} (r : Result (List ℕ) E) (w : Making (List ℕ) (Range ℕ)) (old : List ℕ) (entries : List (Key × Range ℕ)) → HasGathered w old entries
     → IfOk r (λ new. AppendsTable range w (Some w.sink) (Some new)) → IfOk r (λ new. GainsTable entries old new)
 gains-table (Ok new) w old entries has a =
-    let all : inserted w ≡ Some entries = ap (λ o. option_map (λ blocks. entries_of blocks ++ w.gathered) o) has.closed ∙ ap Some has.gathered in
+    let is : IsTable range w [] (ending range w) = of_some (λ blocks. IsTable range w blocks (bytes_of blocks ++ ending range w)) w.closed [] has.closed a.table in
     record {
-      table = a.table;
-      appended = a.appended ∙ ap (λ bytes. bytes ++ a.table) has.same_sink;
-      told = subst (λ o. IfSome o (λ es. sst_of range a.table ≡ Some es)) all a.told;
-      version = a.version;
-      ready = a.ready;
+      table = ending range w;
+      appended = a.appended ∙ ap (λ bytes. bytes ++ ending range w) has.same_sink;
+      told = is.told ∙ ap Some has.gathered;
+      version = is.version;
+      ready = is.ready (one-block w.gathered (content_of range w));
     }
 gains-table (Err e) w old entries has gives = tt

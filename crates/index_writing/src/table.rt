@@ -1,9 +1,9 @@
 // The table of an index file.
-ghost use Rattle.std.specs.Prelude.{◌≡◌, ◌+◌, ◌*◌, ◌<◌, ◌^◌, Some, IfOk, OnOk, true, length, map};
+ghost use Rattle.std.specs.Prelude.{◌≡◌, ◌+◌, ◌*◌, ◌<◌, ◌^◌, Some, None, IfOk, OnOk, true, length, map};
 ghost use Rattle.owned_bytes.specs.Keys.{is_rising};
 ghost use Rattle.sstable_values.specs.Codec.{range};
 ghost use Rattle.sstable_tables.specs.Laws.{HasGathered, keys_size};
-ghost use Rattle.sstable_tables.specs.Making.{IsTaken, Adds, IsTooLong, AppendsTable};
+ghost use Rattle.sstable_tables.specs.Making.{IsTaken, Adds, IsTooLong, AppendsTable, greatest_len};
 ghost use Rattle.index_writing.specs.Emitting.{numbers_of_all, ranged, GainsTable};
 
 use owned_bytes::{Ids, Key, VecSink};
@@ -14,9 +14,10 @@ use tantivy_sstable::{SstWriteError, Writer};
 
 type RangeWriter = Writer<VecSink, RangeValueWriter>;
 
-// Adds an entry that may come next.
+// Adds an entry that may come next to a writer that closes no block.
 fn insert_next(writer: &mut RangeWriter, key: &Key, places: Range<u64>) -> Result<(), AllocError>
-    requires { IsTaken range writer.old key.now places }
+    requires taken { IsTaken range writer.old key.now places }
+    requires gathers { writer.old.block_len ≡ greatest_len }
     ensures { OnOk result (Adds writer.old writer.new key.now places) }
 {
     match writer.insert(key.as_slice(), &places) {
@@ -28,7 +29,7 @@ fn insert_next(writer: &mut RangeWriter, key: &Key, places: Range<u64>) -> Resul
     }
 }
 
-// A writer of the keys, each with the places of its numbers.
+// A writer of the keys, each with the places of its numbers. It closes no block, since tables of several are not opened yet.
 fn ranges_writer(
     alloc: Global,
     postings: &[(Key, Ids)],
@@ -39,6 +40,7 @@ fn ranges_writer(
     ensures { IfOk result (λ writer. HasGathered writer sink (ranged 0 postings.now)) }
 {
     let mut writer = Writer::new(alloc, sink);
+    writer.set_block_len(usize::MAX);
     let mut start = 0;
     for posting in postings {
         let end = start + posting.1.len() as u64;
@@ -50,7 +52,8 @@ fn ranges_writer(
 
 // Writes the table, and hands back the sink.
 fn finish(writer: RangeWriter) -> Result<VecSink, AllocError>
-    requires { ¬ IsTooLong range writer }
+    requires ready { writer.refusal ≡ None }
+    requires short { ¬ IsTooLong range writer }
     ensures { IfOk result (λ sink. AppendsTable range writer (Some writer.sink) (Some sink)) }
 {
     match writer.finish() {

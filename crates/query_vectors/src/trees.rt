@@ -1,4 +1,6 @@
 // Trees that are made by hand, copied, compared and shown.
+ghost use Rattle.std.specs.Prelude.{◌<◌, IfOk, length};
+
 use owned_bytes::Text;
 use std::alloc::{AllocError, Global};
 use std::test::Fail;
@@ -22,8 +24,43 @@ fn word(alloc: Global, phrase: &str) -> Result<UserInputAst, AllocError> {
     UserInputAst::from_leaf(alloc, UserInputLeaf::from(literal(alloc, phrase)?))
 }
 
+fn two_words(alloc: Global) -> Result<Vec<UserInputAst>, AllocError>
+    ensures { IfOk result (λ trees. 0 < length trees.items) }
+{
+    let mut trees = Vec::with_capacity(alloc, 2)?;
+    trees.push(word(alloc, "a")?)?;
+    trees.push(word(alloc, "b")?)?;
+    Ok(trees)
+}
+
 fn debug(alloc: Global, tree: &UserInputAst) -> Result<String, AllocError> {
     format!(in alloc; "{tree:?}")
+}
+
+// All of two words.
+fn all_of_words(alloc: Global) -> Result<String, AllocError> {
+    debug(alloc, &UserInputAst::and(alloc, two_words(alloc)?)?)
+}
+
+// Any of two words.
+fn any_of_words(alloc: Global) -> Result<String, AllocError> {
+    debug(alloc, &UserInputAst::or(alloc, two_words(alloc)?)?)
+}
+
+// Not a word.
+fn not_a_word(alloc: Global) -> Result<String, AllocError> {
+    debug(alloc, &word(alloc, "a")?.unary(alloc, Occur::MustNot)?)
+}
+
+#[test]
+fn trees_of_trees(rt: HostRuntime) -> Result<(), Fail> {
+    let alloc = rt.alloc();
+    assert_eq!(rt; all_of_words(alloc)?.as_str(), "(+a +b)");
+    assert_eq!(rt; any_of_words(alloc)?.as_str(), "(?a ?b)");
+    assert_eq!(rt; not_a_word(alloc)?.as_str(), "(-a)");
+    let empty = debug(alloc, &UserInputAst::empty_query(alloc))?;
+    assert_eq!(rt; empty.as_str(), "<emptyclause>");
+    Ok(())
 }
 
 #[test]

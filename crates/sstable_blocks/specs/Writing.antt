@@ -6,7 +6,7 @@ use Rattle.std.specs.declared.ops.Range.{Range}
 use Rattle.owned_bytes.specs.Keys.{Key, shared, is_rising}
 use Rattle.owned_bytes.specs.Outside.{AppendsPrefix}
 use Rattle.sstable_blocks.specs.declared.errors.DeltaError.{DeltaError}
-use Rattle.sstable_blocks.specs.declared.errors.DeltaError.TheVariants.{BlockTooLong}
+use Rattle.sstable_blocks.specs.declared.errors.DeltaError.TheVariants.{Write, BlockTooLong}
 use Rattle.sstable_values.specs.Values.{Values}
 use Rattle.sstable_values.specs.Codec.{Codec, no_values}
 use Rattle.sstable_blocks.specs.Content.{block}
@@ -85,6 +85,7 @@ pub record KeepsBlock {W V : Type 0} (codec : Codec V) (old new : WriterState W 
   pub prefix : AppendsPrefix old.written new.written (block (content codec old))
   pub later : old.counted ≤ new.counted
   pub too_long : e ≡ BlockTooLong → length_limit ≤ length (content codec old) + 1
+  pub short : e ≡ Write → length (content codec old) + 1 < length_limit
   pub nothing : e ≡ BlockTooLong → new ≡ old
 
 -- What a call did that writes out the open block, if there is one.

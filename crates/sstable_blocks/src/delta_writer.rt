@@ -211,6 +211,8 @@ impl<W: Sink, T: ValueWriter + Drop> DeltaWriter<W, T> {
         ensures next { IfOk result (λ range. OnSome range (IsOpen self.new [])) }
         // Behind a run that ends with the bytes, the block is one more block of the run.
         ensures run { IfOk result (λ range. OnSome range (AddsToRun T.codec self.old)) }
+        ensures told { self.new.written ≡ W.written self.new.sink }
+        ensures failed { self.new.faults ≡ W.faults self.new.sink }
     {
         if self.block.is_empty() {
             return Ok(None);
@@ -240,6 +242,8 @@ impl<W: Sink, T: ValueWriter + Drop> DeltaWriter<W, T> {
         ensures cause { HasCause self.old.faults self.new.faults (result ≡ Err DeltaError.Write) }
         ensures next { IfOk result (λ range. OnSome range (IsOpen self.new [])) }
         ensures run { IfOk result (λ range. OnSome range (AddsToRun T.codec self.old)) }
+        ensures told { self.new.written ≡ W.written self.new.sink }
+        ensures failed { self.new.faults ≡ W.faults self.new.sink }
     {
         if self.block.len() > self.block_len {
             return self.flush_block();

@@ -5,7 +5,6 @@
 //! that it adds: in one byte `keep + 16 * add` where both are below 16, else as byte 1 and two `vint`s; then the bytes.
 #![tactic(auto)]
 
-mod block_addr;
 mod block_reader;
 mod comparator;
 mod delta_reader;
@@ -13,13 +12,13 @@ mod delta_writer;
 mod entry_reader;
 mod errors;
 
-pub use block_addr::BlockAddr;
 pub use block_reader::{BlockReader, BlockSlice};
 pub use comparator::DeltaKeyComparator;
 pub use delta_reader::DeltaReader;
 pub use delta_writer::DeltaWriter;
 pub use errors::DeltaError;
 pub use sstable_values::{
-    BlockError, RangeValueReader, RangeValueWriter, StoredValue, ValueError, ValueReader,
-    ValueWriter, vint,
+    BlockAddr, BlockError, IndexValueReader, IndexValueWriter, RangeValueReader, RangeValueWriter,
+    StoredValue, U64MonotonicValueReader, U64MonotonicValueWriter, ValueError, ValueReader,
+    ValueWriter, VecU32ValueReader, VecU32ValueWriter, VoidValueReader, VoidValueWriter, vint,
 };

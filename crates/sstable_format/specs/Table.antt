@@ -4,7 +4,7 @@ use Rattle.owned_bytes.specs.Front.{◌>>=◌, provided, bytes_at}
 use Rattle.owned_bytes.specs.Keys.{Key, is_below}
 use Rattle.sstable_values.specs.Codec.{Codec, Address}
 use Rattle.sstable_blocks.specs.Run.{Block, whole_run_of, entries_of, last_key}
-use Rattle.sstable_format.specs.Footer.{footer_at}
+use Rattle.sstable_format.specs.Footer.{footer_at, footer_len}
 use Rattle.sstable_format.specs.Index.{IndexEntry, Index, AtMostOneBlock, Entries, is_zeros, at_end, index_of_version}
 
 -- the true address of each block, the first of which starts at start and has its first key at position ordinal
@@ -78,7 +78,7 @@ pub record Parts : Type 0 where
 
 unfoldable pub parts_of : List ℕ → Option Parts
 parts_of table = do
-  ended ← at_end 20 footer_at table
+  ended ← at_end footer_len footer_at table
   parts ← bytes_at ended.0.index_offset ended.1
   Some (record { front = parts.0; index_part = parts.1; count = ended.0.num_terms; version = ended.0.version })
 
@@ -107,7 +107,7 @@ index_part_of table = unwrap_or (option_map (λ parts. parts.index_part) (parts_
 
 -- the bytes from a place on, up to the footer
 abbrev pub index_part_at : ℕ → List ℕ → List ℕ
-index_part_at offset table = drop offset (take (length table - 20) table)
+index_part_at offset table = drop offset (take (length table - footer_len) table)
 
 -- the blocks of a table
 abbrev pub table_blocks : {V : Type 0} → Codec V → List ℕ → Option (List (Block V))

@@ -21,7 +21,7 @@ pub struct Footer {
 impl Footer {
     /// The footer that 20 bytes are.
     pub fn read(mut bytes: OwnedBytes) -> Footer
-        requires { length bytes ≡ 20 }
+        requires { length bytes ≡ FOOTER_LEN }
         ensures offset { result.index_offset ≡ from_le_bytes w64 (take 8 bytes) }
         ensures count { result.num_terms ≡ from_le_bytes w64 (take 8 (drop 8 bytes)) }
         ensures version { result.version ≡ from_le_bytes w32 (take 4 (drop 16 bytes)) }

@@ -1,1 +1,11 @@
 pub mod ReadingLaws
+pub mod Shortening
+pub mod Builds
+pub mod Outcomes
+pub mod KeyPlaces
+pub mod Storing
+pub mod PartLaws
+pub mod Appending
+pub mod Placing
+pub mod RunsV2
+pub mod PartV2

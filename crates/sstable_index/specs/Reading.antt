@@ -12,7 +12,7 @@ abbrev pub ReadsIndex : Footer → List ℕ → Result SSTableIndex SstError →
 ReadsIndex footer part (Ok (V2 index)) = (footer.version ≡ 2) × (part ≡ [])
 ReadsIndex footer part (Ok (V3Empty index)) =
     (footer.version ≡ 3) × EndsWith part 0
-    × (index.block_addr.byte_range.start ≡ 0) × (index.block_addr.byte_range.end ≡ footer.index_offset)
+    × (index.block_addr.start ≡ 0) × (index.block_addr.end ≡ footer.index_offset)
 ReadsIndex footer part (Err Memory) = ⊥
 ReadsIndex footer part (Err Read) = ⊥
 ReadsIndex footer part (Err Corrupt) = ((footer.version ≡ 2) × (part ≢ [])) ⊎ ((footer.version ≡ 3) × (length part < 8))

@@ -11,4 +11,4 @@ shown_index (V3Empty index) = AtMostOneBlock
 -- the one block is all bytes of so many
 abbrev pub IsWhole : SSTableIndex → ℕ → Type 0
 IsWhole (V2 index) n = Unit {0}
-IsWhole (V3Empty index) n = (index.block_addr.byte_range.start ≡ 0) × (index.block_addr.byte_range.end ≡ n)
+IsWhole (V3Empty index) n = (index.block_addr.start ≡ 0) × (index.block_addr.end ≡ n)

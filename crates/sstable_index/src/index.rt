@@ -32,8 +32,8 @@ impl SSTableIndexV3Empty {
     /// The block is all bytes up to the index part.
     pub fn load(index_start_pos: usize) -> SSTableIndexV3Empty
         ensures first { result.block_addr.first_ordinal ≡ 0 }
-        ensures start { result.block_addr.byte_range.start ≡ 0 }
-        ensures end { result.block_addr.byte_range.end ≡ index_start_pos }
+        ensures start { result.block_addr.start ≡ 0 }
+        ensures end { result.block_addr.end ≡ index_start_pos }
     {
         SSTableIndexV3Empty {
             block_addr: BlockAddr {

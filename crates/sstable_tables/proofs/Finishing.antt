@@ -1,43 +1,44 @@
 -- A finished table has the entries that were inserted.
-use Rattle.std.proofs.Common.{◌≡◌, ◌≢◌, ℕ, ◌+◌, ◌-◌, ◌^◌, ◌<◌, ◌≤◌, List, [], ◌∷◌, ◌++◌, length, take, drop, min, true, false, cond, ◌&&◌, Option, Some, None, Result, Ok, Err, inl, inr, refl, ap, sym, ◌∙◌, subst, arith, length-append, append_assoc, append-nil}
-use Rattle.std.specs.Prelude.{nat_le, ◌==◌, OnSome, IfErr}
-use Rattle.std.specs.Int.{w32, w64, to_le_bytes}
+use Rattle.std.proofs.Common.{◌≡◌, ◌≢◌, ℕ, ◌+◌, ◌-◌, ◌^◌, ◌<◌, ◌≤◌, List, [], ◌∷◌, ◌++◌, length, take, drop, Bool, true, false, ◌&&◌, Option, Some, None, Result, Ok, Err, inl, inr, refl, ap, sym, ◌∙◌, subst, arith, length-append, append_assoc, append-nil}
+use Rattle.std.specs.Prelude.{nat_lt, ◌==◌, if◌then◌else◌, unwrap_or, IfSome, IfOk, IfErr}
+use Rattle.std.specs.List.{flat_map}
 use Rattle.std.specs.Io.KnownBytes.{Appends, Keeps}
 use Rattle.std.proofs.KnownBytes.{Appends-trans}
-use Rattle.std.specs.declared.ops.Range.{Range}
-use Rattle.std.proofs.lemmas.Bool.{eq-eqb}
+use Rattle.std.proofs.lemmas.Bool.{eq-eqb, and_from, lt-ltb, le-leb, false≢true}
 use Rattle.std.proofs.lemmas.List.{take_at, drop_at}
 use Rattle.std.proofs.lemmas.Nat.{from_le_bytes-to_le_bytes_8}
-use Rattle.owned_bytes.specs.Front.{◌>>=◌, provided, continued, pieces}
+use Rattle.owned_bytes.specs.Front.{◌>>=◌, provided, pieces}
 use Rattle.owned_bytes.specs.Keys.{Key}
 use Rattle.owned_bytes.specs.Outside.{AppendsPrefix, WritesAll}
 use Rattle.owned_bytes.proofs.InTurn.{AppendsPrefix-first, AppendsPrefix-second}
-use Rattle.owned_bytes.proofs.Pieces.{pieces-step, bind_some, some_is}
+use Rattle.owned_bytes.proofs.Pieces.{pieces-step, pieces-extended, with_front, bind_some, some_is}
 use Rattle.sstable_values.specs.Codec.{Codec}
-use Rattle.sstable_blocks.specs.Content.{block}
+use Rattle.sstable_blocks.specs.Block.{delta, delta_between}
+unfoldable use Rattle.sstable_blocks.specs.Block.{deltas_between}
 unfoldable use Rattle.sstable_blocks.specs.Content.{block_at}
-unfoldable use Rattle.sstable_blocks.specs.Block.{block_of}
-use Rattle.sstable_blocks.specs.Run.{Block, Run, block_or_end, front_of_blocks, last_key, may_follow, key_before, entries_of}
+use Rattle.sstable_blocks.specs.Run.{Block, Run, front_of_blocks, entries_of}
 unfoldable use Rattle.sstable_blocks.specs.Run.{blocks_after, whole_run_of}
-use Rattle.sstable_blocks.specs.Writing.{WriterState, AddsToRun, WritesBlock, content, KeepsBlock, Flushes}
-use Rattle.sstable_blocks.proofs.RunLaws.{IsContent, block-found, blocks-shrink, front-none}
-use Rattle.sstable_format.specs.Index.{AtMostOneBlock, index_v3_of, is_zeros}
-use Rattle.sstable_format.specs.Table.{keeping_nothing, blocks_of, blocks_under, entries_under, sst_of, indexes}
+use Rattle.sstable_blocks.specs.Writing.{WriterState, keys_in}
+use Rattle.sstable_blocks.proofs.RunLaws.{blocks-shrink, blocks-extend}
+use Rattle.sstable_format.specs.Index.{IndexEntry, Index, index_of_version, is_zeros}
+use Rattle.sstable_format.specs.Table.{keeping_nothing, blocks_of, blocks_under, sst_of, table_blocks, indexes}
+unfoldable use Rattle.sstable_format.specs.Table.{places_from, points_to}
+use Rattle.sstable_format.specs.Version.{version_of}
 use Rattle.sstable_format.specs.Refused.{is_waiting}
-use Rattle.sstable_format.specs.Ending.{HasFooter}
+use Rattle.sstable_format.specs.Ending.{IsEnding, HasFooter}
 use Rattle.sstable_format.specs.declared.footer.Footer as code
-use Rattle.sstable_tables.specs.declared.errors.SstWriteError.{SstWriteError}
-use Rattle.sstable_tables.specs.declared.errors.Unfinished.{Unfinished}
-use Rattle.sstable_blocks.specs.declared.errors.DeltaError.{DeltaError}
-use Rattle.sstable_blocks.specs.declared.errors.DeltaError.TheVariants as deltas
-use Rattle.sstable_tables.specs.Making.{Making, content_of, table_end, block_if_any, open_block, table_bytes, IsTooLong, AppendsTable, StopsTable, Finishing, IsSinkError, handed}
-use Rattle.sstable_tables.specs.Errors.{error_of_delta}
-use Rattle.sstable_tables.specs.Made.{open_entries, made, IsMaking}
-use Rattle.sstable_format.specs.Ending.{IsEnding}
 use Rattle.sstable_format.proofs.Endings.{footer-by, is_waiting-v3}
-use Rattle.sstable_format.proofs.Parts.{body_of, found-is}
-use Rattle.sstable_format.proofs.IndexParts.{index_v3-zero}
-use Rattle.sstable_tables.proofs.Gathering.{entries-fit, content-same, block-same, some-entry}
+use Rattle.sstable_format.proofs.Parts.{body_of, found-is, blocks-is}
+use Rattle.sstable_index.specs.Building.{index_part, index_of, are_rising, Serializes}
+use Rattle.sstable_index.specs.declared.write_errors.Unfinished.{Unfinished}
+use Rattle.sstable_index.specs.declared.write_errors.SstWriteError.{SstWriteError}
+use Rattle.sstable_index.specs.declared.write_errors.SstWriteError.TheVariants.{Memory, Write, Unsorted, ValueRefused, BlockTooLong, Spent}
+use Rattle.sstable_tables.specs.Making.{Making, deltas_of, content_of, if_any, open_block, bytes_of, next_address, whole_index, is_due, IsTooLong, FailsToClose, Closing, table_end, ending, IsTable, StopsTable, Finishing, IsSinkError, handed, AreLast}
+use Rattle.sstable_tables.specs.Made.{footer, IsRefusal, made, IsMaking, closed_now, AreBlocks}
+use Rattle.sstable_tables.proofs.IndexLaws.{as_many}
+use Rattle.sstable_tables.proofs.Blocks.{if_some, of_some, are-last, bytes-both, entries-both}
+use Rattle.sstable_tables.proofs.Gathering.{delta-some}
+use Rattle.sstable_tables.proofs.Closing.{made-len, entries-open}
 
 abbrev zeros : List ℕ
 zeros = 0 ∷ 0 ∷ 0 ∷ 0 ∷ []
@@ -47,276 +48,360 @@ zeros-end : pieces front_of_blocks zeros ≡ Some ([], zeros)
 unfolding block_at
 zeros-end = pieces-step front_of_blocks blocks-shrink zeros
 
--- a block and then four zero bytes
-one-piece : (bytes rest : List ℕ) → IsContent bytes → pieces front_of_blocks (block bytes ++ rest) ≡ (pieces front_of_blocks rest >>= (λ others. Some (bytes ∷ others.0, others.1)))
-one-piece bytes rest is =
-    pieces-step front_of_blocks blocks-shrink (block bytes ++ rest)
-    ∙ ap (continued (pieces front_of_blocks) (block bytes ++ rest)) (ap block_or_end (block-found 0 bytes rest is))
-
-one-then_zeros : (bytes : List ℕ) → IsContent bytes → pieces front_of_blocks (block bytes ++ zeros) ≡ Some (bytes ∷ [], zeros)
-one-then_zeros bytes is = one-piece bytes zeros is ∙ ap (λ o. o >>= (λ others. Some (bytes ∷ others.0, others.1))) zeros-end
-
-one-alone : (bytes : List ℕ) → IsContent bytes → pieces front_of_blocks (block bytes) ≡ Some (bytes ∷ [], [])
-one-alone bytes is =
-    ap (pieces front_of_blocks) (sym (append-nil (block bytes))) ∙ one-piece bytes [] is
-    ∙ ap (λ o. o >>= (λ others. Some (bytes ∷ others.0, others.1))) (pieces-step front_of_blocks blocks-shrink [] ∙ ap (continued (pieces front_of_blocks) []) front-none)
-
--- the block of a run of one block
-abbrev alone : {V : Type 0} → List ℕ → List (Key × V) → Run V
-alone bytes entries = record { blocks = record { content = bytes; entries = entries } ∷ []; rest = [] }
-
 as_run : {V : Type 0} → Codec V → List (List ℕ) × List ℕ → Option (Run V)
 as_run codec found = blocks_after codec None found.0 >>= (λ blocks. Some (record { blocks = blocks; rest = found.1 }))
 
-first_before : {V : Type 0} (codec : Codec V) → key_before codec None ≡ []
-first_before codec = let none : Key = [] in elim codec.goes_on as (λ b. cond {A = Key} b none none ≡ none) [ true ↦ refl | false ↦ refl ]
+-- a run that ends with the bytes, and then four zero bytes
+run-then_zeros : {V : Type 0} (codec : Codec V) (bytes : List ℕ) (blocks : List (Block V)) → whole_run_of codec bytes ≡ Some (record { blocks = blocks; rest = [] }) → whole_run_of codec (bytes ++ zeros) ≡ Some (record { blocks = blocks; rest = zeros })
+unfolding whole_run_of as_run
+run-then_zeros codec bytes blocks run =
+    let cut = bind_some (pieces front_of_blocks bytes) (as_run codec) (record { blocks = blocks; rest = [] }) run in
+    let read = bind_some (blocks_after codec None cut.0.0) (λ bs. Some (record { blocks = bs; rest = cut.0.1 })) (record { blocks = blocks; rest = [] }) cut.2 in
+    let same : record { blocks = read.0; rest = cut.0.1 } ≡ record { blocks = blocks; rest = [] } = some_is _ _ read.2 in
+    let same_blocks : read.0 ≡ blocks = ap (λ (r : Run _). r.blocks) same in
+    let ends : cut.0.1 ≡ [] = ap (λ (r : Run _). r.rest) same in
+    let whole : pieces front_of_blocks bytes ≡ Some (cut.0.0, []) = cut.1 ∙ ap (λ rest. Some (cut.0.0, rest)) ends in
+    let more : pieces front_of_blocks (bytes ++ zeros) ≡ Some (cut.0.0 ++ [], zeros) =
+    pieces-extended front_of_blocks blocks-shrink blocks-extend bytes zeros cut.0.0 whole ∙ ap (with_front cut.0.0) zeros-end in
+    ap (λ o. o >>= as_run codec) (more ∙ ap (λ xs. Some (xs, zeros)) (append-nil cut.0.0))
+    ∙ ap (λ o. o >>= (λ bs. Some (record { blocks = bs; rest = zeros }))) (read.1 ∙ ap Some same_blocks)
 
-first_entries : {V : Type 0} → List (Block V) → List (Key × V)
-first_entries [] = []
-first_entries (b ∷ blocks) = b.entries
+blocks-then_zeros : {V : Type 0} (codec : Codec V) (bytes : List ℕ) (blocks : List (Block V)) → whole_run_of (keeping_nothing codec) bytes ≡ Some (record { blocks = blocks; rest = [] }) → blocks_of codec (bytes ++ zeros) ≡ Some blocks
+unfolding blocks_of
+blocks-then_zeros codec bytes blocks run =
+    ap (λ o. o >>= (λ (run : Run _). provided (is_zeros 4 run.rest) >>= (λ _. Some run.blocks))) (run-then_zeros (keeping_nothing codec) bytes blocks run)
 
--- a run of one block tells the entries of the block
-block-of_run : {V : Type 0} (codec : Codec V) (bytes : List ℕ) (entries : List (Key × V)) → IsContent bytes → whole_run_of codec (block bytes) ≡ Some (alone bytes entries) → block_of codec [] bytes ≡ Some entries
-unfolding whole_run_of as_run blocks_after first_entries
-block-of_run codec bytes entries is run =
-    let here : as_run codec (bytes ∷ [], []) ≡ Some (alone bytes entries) = ap (λ o. o >>= as_run codec) (sym (one-alone bytes is)) ∙ run in
-    let blocks = bind_some (blocks_after codec None (bytes ∷ [])) (λ blocks. Some (record { blocks = blocks; rest = [] })) (alone bytes entries) here in
-    let first = bind_some (block_of codec (key_before codec None) bytes) (λ entries. provided (may_follow None entries) >>= (λ _. blocks_after codec (last_key entries) [] >>= (λ others. Some (record { content = bytes; entries = entries } ∷ others)))) blocks.0 blocks.1 in
-    let same : record { content = bytes; entries = first.0 } ∷ [] ≡ blocks.0 = some_is _ _ first.2 in
-    let whole : blocks.0 ≡ record { content = bytes; entries = entries } ∷ [] = ap (λ (r : Run _). r.blocks) (some_is _ _ blocks.2) in
-    ap (λ k. block_of codec k bytes) (sym (first_before codec)) ∙ first.1 ∙ ap Some (ap first_entries (same ∙ whole))
-
--- the blocks before the index part of a table: none, or one
-no_blocks : {V : Type 0} (codec : Codec V) → blocks_of codec zeros ≡ Some []
-unfolding blocks_of whole_run_of blocks_after
-no_blocks codec = ap (λ o. (o >>= (λ (contents : List (List ℕ) × List ℕ). blocks_after (keeping_nothing codec) None contents.0 >>= (λ blocks. Some (record { blocks = blocks; rest = contents.1 })))) >>= (λ (run : Run _). provided (is_zeros 4 run.rest) >>= (λ _. Some run.blocks))) zeros-end
-
-one_block : {V : Type 0} (codec : Codec V) (bytes : List ℕ) (entries : List (Key × V)) → IsContent bytes → block_of codec [] bytes ≡ Some entries → blocks_of codec (block bytes ++ zeros) ≡ Some (record { content = bytes; entries = entries } ∷ [])
-unfolding blocks_of whole_run_of blocks_after block_of
-one_block codec bytes entries is found =
-    ap (λ o. (o >>= (λ (contents : List (List ℕ) × List ℕ). blocks_after (keeping_nothing codec) None contents.0 >>= (λ blocks. Some (record { blocks = blocks; rest = contents.1 })))) >>= (λ (run : Run _). provided (is_zeros 4 run.rest) >>= (λ _. Some run.blocks))) (one-then_zeros bytes is)
-    ∙ ap (λ o. ((o >>= (λ entries. provided (may_follow None entries) >>= (λ _. blocks_after (keeping_nothing codec) (last_key entries) [] >>= (λ others. Some (record { content = bytes; entries = entries } ∷ others))))) >>= (λ blocks. Some (record { blocks = blocks; rest = zeros }))) >>= (λ (run : Run _). provided (is_zeros 4 run.rest) >>= (λ _. Some run.blocks))) found
-
-abbrev eight : List ℕ
-eight = 0 ∷ 0 ∷ 0 ∷ 0 ∷ 0 ∷ 0 ∷ 0 ∷ 0 ∷ []
-
-abbrev foot : ℕ → ℕ → List ℕ
-foot offset count = to_le_bytes w64 offset ++ (to_le_bytes w64 count ++ to_le_bytes w32 3)
+-- ---- the parts of a table
 
 -- the table before its footer
-abbrev before_foot : List ℕ → List ℕ
-before_foot bs = bs ++ (zeros ++ eight)
+abbrev before_foot : List ℕ → List ℕ → List ℕ
+before_foot bs part = bs ++ (zeros ++ part)
 
-abbrev whole : List ℕ → ℕ → List ℕ
-whole bs count = bs ++ table_end (length bs + 4) count
+abbrev whole : List ℕ → List ℕ → ℕ → List ℕ
+whole bs part count = bs ++ (zeros ++ (part ++ footer (length bs + 4) count))
 
 abbrev told_footer : List ℕ → ℕ → code.Footer
 told_footer bs count = record { index_offset = length bs + 4; num_terms = count; version = 3 }
 
-whole-split : (bs : List ℕ) (count : ℕ) → whole bs count ≡ before_foot bs ++ foot (length bs + 4) count
-whole-split bs count = sym (append_assoc bs (zeros ++ eight) (foot (length bs + 4) count))
+whole-split : (bs part : List ℕ) (count : ℕ) → whole bs part count ≡ before_foot bs part ++ footer (length bs + 4) count
+whole-split bs part count = sym (append_assoc bs (zeros ++ part) (footer (length bs + 4) count))
 
-length-whole : (bs : List ℕ) (count : ℕ) → length (whole bs count) ≡ length bs + 32
-length-whole bs count = length-append bs (table_end (length bs + 4) count)
+length-before : (bs part : List ℕ) → length (before_foot bs part) ≡ length bs + 4 + length part
+length-before bs part = omega (arith, length-append bs (zeros ++ part))
 
-length-before : (bs : List ℕ) → length (before_foot bs) ≡ length bs + 12
-length-before bs = length-append bs (zeros ++ eight)
+length-whole : (bs part : List ℕ) (count : ℕ) → length (whole bs part count) ≡ length bs + length part + 24
+length-whole bs part count = omega (arith, ap length (whole-split bs part count), length-append (before_foot bs part) (footer (length bs + 4) count), length-before bs part)
 
-last-whole : (bs : List ℕ) (count : ℕ) → drop (length (whole bs count) - 20) (whole bs count) ≡ foot (length bs + 4) count
-last-whole bs count =
-    ap (drop (length (whole bs count) - 20)) (whole-split bs count)
-    ∙ drop_at (before_foot bs) (foot (length bs + 4) count) (length (whole bs count) - 20) (omega (arith, length-whole bs count, length-before bs))
+last-whole : (bs part : List ℕ) (count : ℕ) → drop (length (whole bs part count) - 20) (whole bs part count) ≡ footer (length bs + 4) count
+last-whole bs part count =
+    ap (drop (length (whole bs part count) - 20)) (whole-split bs part count)
+    ∙ drop_at (before_foot bs part) (footer (length bs + 4) count) (length (whole bs part count) - 20) (omega (arith, length-whole bs part count, length-before bs part))
 
-body-whole : (bs : List ℕ) (count : ℕ) → body_of (whole bs count) ≡ before_foot bs
-body-whole bs count =
-    ap (take (length (whole bs count) - 20)) (whole-split bs count)
-    ∙ take_at (before_foot bs) (foot (length bs + 4) count) (length (whole bs count) - 20) (omega (arith, length-whole bs count, length-before bs))
+body-whole : (bs part : List ℕ) (count : ℕ) → body_of (whole bs part count) ≡ before_foot bs part
+body-whole bs part count =
+    ap (take (length (whole bs part count) - 20)) (whole-split bs part count)
+    ∙ take_at (before_foot bs part) (footer (length bs + 4) count) (length (whole bs part count) - 20) (omega (arith, length-whole bs part count, length-before bs part))
 
-ending-whole : (bs : List ℕ) (count : ℕ) → IsEnding (whole bs count) (foot (length bs + 4) count)
-ending-whole bs count = record {
-  room = omega (arith, length-whole bs count);
-  len = omega (arith, length-whole bs count);
-  last = last-whole bs count;
+ending-whole : (bs part : List ℕ) (count : ℕ) → IsEnding (whole bs part count) (footer (length bs + 4) count)
+ending-whole bs part count = record {
+  room = omega (arith, length-whole bs part count);
+  len = omega (arith, length-whole bs part count);
+  last = last-whole bs part count;
 }
 
-has-footer : (bs : List ℕ) (count : ℕ) → length bs + 4 < 2 ^ 64 → count < 2 ^ 64 → HasFooter (whole bs count) (told_footer bs count)
-has-footer bs count short few =
-    footer-by (whole bs count) (foot (length bs + 4) count) (told_footer bs count) 3 (ending-whole bs count) refl (omega (arith, length-whole bs count))
+has-footer : (bs part : List ℕ) (count : ℕ) → length bs + 4 < 2 ^ 64 → count < 2 ^ 64 → HasFooter (whole bs part count) (told_footer bs count)
+has-footer bs part count short few =
+    footer-by (whole bs part count) (footer (length bs + 4) count) (told_footer bs count) 3 (ending-whole bs part count) refl (omega (arith, length-whole bs part count))
     (inl (λ e. absurd (omega (arith, e)), refl)) (λ e. absurd (omega (arith, e)))
     (sym (from_le_bytes-to_le_bytes_8 (length bs + 4) short)) (sym (from_le_bytes-to_le_bytes_8 count few)) refl
-    (omega (arith, length-whole bs count))
+    (omega (arith, length-whole bs part count))
 
-front-of_body : (bs : List ℕ) (count : ℕ) → take (length bs + 4) (body_of (whole bs count)) ≡ bs ++ zeros
-front-of_body bs count =
-    ap (take (length bs + 4)) (body-whole bs count ∙ sym (append_assoc bs zeros eight))
-    ∙ take_at (bs ++ zeros) eight (length bs + 4) (length-append bs zeros)
+front-of_body : (bs part : List ℕ) (count : ℕ) → take (length bs + 4) (body_of (whole bs part count)) ≡ bs ++ zeros
+front-of_body bs part count =
+    ap (take (length bs + 4)) (body-whole bs part count ∙ sym (append_assoc bs zeros part))
+    ∙ take_at (bs ++ zeros) part (length bs + 4) (length-append bs zeros)
 
-part-of_body : (bs : List ℕ) (count : ℕ) → eight ≡ drop (length bs + 4) (body_of (whole bs count))
-part-of_body bs count = sym (
-    ap (drop (length bs + 4)) (body-whole bs count ∙ sym (append_assoc bs zeros eight))
-    ∙ drop_at (bs ++ zeros) eight (length bs + 4) (length-append bs zeros))
+part-of_body : (bs part : List ℕ) (count : ℕ) → part ≡ drop (length bs + 4) (body_of (whole bs part count))
+part-of_body bs part count = sym (
+    ap (drop (length bs + 4)) (body-whole bs part count ∙ sym (append_assoc bs zeros part))
+    ∙ drop_at (bs ++ zeros) part (length bs + 4) (length-append bs zeros))
 
--- a table of these blocks, of which there is at most one
-told-whole : {V : Type 0} (codec : Codec V) (bs : List ℕ) (blocks : List (Block V)) (count : ℕ) → length bs + 4 < 2 ^ 64 → count < 2 ^ 64
-    → blocks_of codec (bs ++ zeros) ≡ Some blocks → count ≡ length (entries_of blocks) → nat_le (length blocks) 1 ≡ true → sst_of codec (whole bs count) ≡ Some (entries_of blocks)
+-- a table of these blocks, with this index
+blocks-whole : {V : Type 0} (codec : Codec V) (bs part : List ℕ) (index : Index) (blocks : List (Block V)) (count : ℕ) → blocks_of codec (bs ++ zeros) ≡ Some blocks → count ≡ length (entries_of blocks) → indexes index blocks ≡ true
+    → blocks_under codec index count (take (length bs + 4) (body_of (whole bs part count))) ≡ Some blocks
 unfolding blocks_under
-told-whole codec bs blocks count short few found counted one =
-    found-is codec (whole bs count) (told_footer bs count) AtMostOneBlock (has-footer bs count short few)
-    (ap index_v3_of (sym (part-of_body bs count)) ∙ index_v3-zero eight (omega arith, refl))
-    ∙ ap (λ part. entries_under codec AtMostOneBlock count part) (front-of_body bs count)
-    ∙ ap (λ o. (o >>= (λ blocks. provided (count == length (entries_of blocks) && indexes AtMostOneBlock blocks) >>= (λ _. Some blocks))) >>= (λ blocks. Some (entries_of blocks))) found
-    ∙ ap (λ t. (provided (t && nat_le (length blocks) 1) >>= (λ _. Some blocks)) >>= (λ blocks. Some (entries_of blocks))) (eq-eqb count (length (entries_of blocks)) counted)
-    ∙ ap (λ t. (provided t >>= (λ _. Some blocks)) >>= (λ blocks. Some (entries_of blocks))) one
+blocks-whole codec bs part index blocks count found counted points =
+    ap (λ front. blocks_under codec index count front) (front-of_body bs part count)
+    ∙ ap (λ o. o >>= (λ blocks. provided (count == length (entries_of blocks) && indexes index blocks) >>= (λ _. Some blocks))) found
+    ∙ ap (λ t. provided t >>= (λ _. Some blocks)) (and_from (count == length (entries_of blocks)) (indexes index blocks) (eq-eqb count (length (entries_of blocks)) counted) points)
 
-ready-whole : (bs : List ℕ) (count : ℕ) → length bs + 4 < 2 ^ 64 → count < 2 ^ 64 → is_waiting (whole bs count) ≡ false
+told-whole : {V : Type 0} (codec : Codec V) (bs part : List ℕ) (index : Index) (blocks : List (Block V)) (count : ℕ) → length bs + 4 < 2 ^ 64 → count < 2 ^ 64 → index_of_version 3 part ≡ Some index
+    → blocks_of codec (bs ++ zeros) ≡ Some blocks → count ≡ length (entries_of blocks) → indexes index blocks ≡ true
+    → (table_blocks codec (whole bs part count) ≡ Some blocks) × (sst_of codec (whole bs part count) ≡ Some (entries_of blocks))
+told-whole codec bs part index blocks count short few told found counted points =
+    let foot = has-footer bs part count short few in
+    let is : index_of_version 3 (drop (length bs + 4) (body_of (whole bs part count))) ≡ Some index = ap (index_of_version 3) (sym (part-of_body bs part count)) ∙ told in
+    let under = blocks-whole codec bs part index blocks count found counted points in (
+      blocks-is codec (whole bs part count) (told_footer bs count) index foot is ∙ under,
+      found-is codec (whole bs part count) (told_footer bs count) index foot is ∙ ap (λ o. o >>= (λ blocks. Some (entries_of blocks))) under,
+    )
+
+-- what the index part tells is the index of the blocks
+indexes-told : {V : Type 0} (index : List IndexEntry) (blocks : List (Block V)) → points_to index blocks (places_from 0 0 blocks) ≡ true → indexes (index_of index) blocks ≡ true
+indexes-told [] blocks points = le-leb (length blocks) 1 (let many = as_many [] blocks _ points in omega (arith, many))
+indexes-told (entry ∷ []) blocks points = le-leb (length blocks) 1 (let many = as_many (entry ∷ []) blocks _ points in omega (arith, many))
+indexes-told (entry ∷ next ∷ entries) blocks points = points
+
+abbrev eight : List ℕ
+eight = 0 ∷ 0 ∷ 0 ∷ 0 ∷ 0 ∷ 0 ∷ 0 ∷ 0 ∷ []
+
+one-part : (index : List IndexEntry) → length index ≤ 1 → index_part index ≡ eight
+one-part [] few = refl
+one-part (entry ∷ []) few = refl
+one-part (entry ∷ next ∷ entries) few = absurd (omega (arith, few))
+
+ready-whole : (bs : List ℕ) (count : ℕ) → length bs + 4 < 2 ^ 64 → count < 2 ^ 64 → is_waiting (whole bs eight count) ≡ false
 ready-whole bs count short few =
-    let h = has-footer bs count short few in
-    is_waiting-v3 (whole bs count) (body_of (whole bs count)) eight (told_footer bs count) h.read refl
-    (omega (arith, ap length (body-whole bs count), length-before bs)) (part-of_body bs count) (omega arith)
+    let h = has-footer bs eight count short few in
+    is_waiting-v3 (whole bs eight count) (body_of (whole bs eight count)) eight (told_footer bs count) h.read refl
+    (omega (arith, ap length (body-whole bs eight count), length-before bs eight)) (part-of_body bs eight count) (omega arith)
 
--- the open block was written out, if there is one
-record Flushed {W V : Type 0} (codec : Codec V) (state new : WriterState W V) (n : ℕ) : Type 0 where
-  appended : Appends state.written new.written (open_block codec (made state n))
-  counted : new.counted ≡ length (open_block codec (made state n))
-  short : length (open_block codec (made state n)) + 4 < 2 ^ 64
-  blocks : List (Block V)
-  found : blocks_of codec (open_block codec (made state n) ++ zeros) ≡ Some blocks
-  same : entries_of blocks ≡ open_entries state
-  one : nat_le (length blocks) 1 ≡ true
-  not_long : ¬ IsTooLong codec (made state n)
+-- A table of these blocks.
+record Tells {V : Type 0} (codec : Codec V) (blocks : List (Block V)) (table : List ℕ) : Type 0 where
+  told : sst_of codec table ≡ Some (entries_of blocks)
+  in_blocks : table_blocks codec table ≡ Some blocks
+  version : version_of table ≡ Some 3
+  ready : length blocks ≤ 1 → is_waiting table ≡ false
+
+tells-whole : {W V : Type 0} (codec : Codec V) (last : Making W V) (blocks : List (Block V)) → AreBlocks codec last blocks → last.gathered ≡ [] → last.counted + 4 < 2 ^ 64 → last.count < 2 ^ 64
+    → index_of_version 3 (index_part last.index) ≡ Some (index_of last.index) → Tells codec blocks (bytes_of blocks ++ table_end last.index (last.counted + 4) last.count)
+tells-whole {W} {V} codec last blocks are none small few told =
+    let bs = bytes_of blocks in
+    let part = index_part last.index in
+    let short : length bs + 4 < 2 ^ 64 = omega (arith, are.size, small) in
+    let count : last.count ≡ length (entries_of blocks) = omega (arith, are.count, ap length none) in
+    let facts = told-whole codec bs part (index_of last.index) blocks last.count short few told (blocks-then_zeros codec bs blocks are.run) count (indexes-told last.index blocks are.points) in
+    let many = as_many last.index blocks _ are.points in
+    let it : Tells codec blocks (whole bs part last.count) = record {
+      told = facts.1;
+      in_blocks = facts.0;
+      version = (has-footer bs part last.count short few).told;
+      ready = λ one. ap (λ p. is_waiting (whole bs p last.count)) (one-part last.index (omega (arith, one, many))) ∙ ready-whole bs last.count short few;
+    } in
+    subst (λ n. Tells codec blocks (bs ++ table_end last.index (n + 4) last.count)) (sym are.size) it
+
+-- ---- closing the last block
+
+-- a writer whose open block is due if it has an entry
+abbrev due_always : {W V : Type 0} → Making W V → Making W V
+due_always w = record w { block_len = 0 }
+
+-- entries take bytes
+first-takes : {V : Type 0} (entries : List (Key × V)) → entries ≢ [] → 0 < length (deltas_of entries)
+unfolding deltas_between
+first-takes [] some = absurd (some refl)
+first-takes (entry ∷ entries) some =
+    let more = delta-some (delta_between [] entry.0) in
+    let rest = length-append (delta (delta_between [] entry.0)) (flat_map delta (deltas_between entry.0 (keys_in entries))) in
+    omega (arith, more, rest)
+
+none-takes : {W V : Type 0} (w : Making W V) → w.gathered ≡ [] → is_due (due_always w) ≡ false
+unfolding deltas_between
+none-takes w none = ap (λ es. nat_lt 0 (length (deltas_of es))) none
+
+-- The last block was closed, if there is one.
+pub record Ended {W V : Type 0} (codec : Codec V) (told : W → Option (List ℕ)) (w last : Making W V) : Type 0 where
+  pub ready : w.refusal ≡ None
+  pub still : last.refusal ≡ None
+  pub short : ¬ IsTooLong codec w
+  pub appended : Appends (told w.sink) (told last.sink) (bytes_of (open_block codec w))
+  pub counted : last.counted ≡ w.counted + length (bytes_of (open_block codec w))
+  pub index : last.index ≡ whole_index codec w
+  pub count : last.count ≡ w.count
+  pub gathered : last.gathered ≡ []
+  pub now : closed_now codec (due_always w) ≡ open_block codec w
 
 appends-none : (a : Option (List ℕ)) → Appends a a []
 appends-none None = tt
 appends-none (Some xs) = sym (append-nil xs)
 
-nothing : {A : Type 0} (xs : List A) → length xs ≤ 0 → xs ≡ []
-nothing [] none = refl
-nothing (x ∷ xs) none = absurd (omega (arith, none))
-
-no_run : {V : Type 0} (codec : Codec V) → whole_run_of codec [] ≡ Some (record { blocks = []; rest = [] })
-unfolding whole_run_of blocks_after
-no_run codec = ap (λ o. o >>= (λ (contents : List (List ℕ) × List ℕ). blocks_after codec None contents.0 >>= (λ blocks. Some (record { blocks = blocks; rest = contents.1 })))) (pieces-step front_of_blocks blocks-shrink [] ∙ ap (continued (pieces front_of_blocks) []) front-none)
-
-flushed-none : {W V : Type 0} (codec : Codec V) (written : W → Option (List ℕ)) (faults : W → ℕ) (state new : WriterState W V) (previous : Key) (n : ℕ) → IsMaking codec written faults state previous n → state.deltas ≡ [] → new ≡ state → Flushed codec state new n
-flushed-none codec written faults state new previous n is none same =
-    let no_entry : open_entries state ≡ [] = nothing (open_entries state) (omega (arith, entries-fit state (open_entries state) is.open_block, ap length none)) in
-    let empty : open_block codec (made state n) ≡ [] = ap (λ es. block_if_any es (content_of codec (made state n))) no_entry in
-    record {
-      appended = subst (λ (b : Option (List ℕ)). Appends state.written b (open_block codec (made state n))) (ap (λ (s : WriterState _ _). s.written) (sym same))
-          (subst (λ (bs : List ℕ). Appends state.written state.written bs) (sym empty) (appends-none state.written));
-      counted = ap (λ (s : WriterState _ _). s.counted) same ∙ is.none_counted ∙ ap length (sym empty);
-      short = omega (arith, ap length empty);
-      blocks = [];
-      found = ap (λ bs. blocks_of codec (bs ++ zeros)) empty ∙ no_blocks codec;
-      same = sym no_entry;
-      one = refl;
-      not_long = λ long. long.0 no_entry;
-    }
-
-flushed-one : {W V : Type 0} (codec : Codec V) (written : W → Option (List ℕ)) (faults : W → ℕ) (state new : WriterState W V) (previous : Key) (n : ℕ) (range : Range ℕ) → IsMaking codec written faults state previous n
-    → WritesBlock codec state new range → AddsToRun codec state → Flushed codec state new n
-flushed-one codec written faults state new previous n range is writes adds =
-    let is_content = content-same codec written faults state previous n is in
-    let is_block : open_block codec (made state n) ≡ block (content codec state) = block-same codec written faults state previous n is writes.some in
-    let there = something state.deltas writes.some in
-    let size = length-append (codec.spelled state.values) state.deltas in
-    let long : length (block (content codec state)) ≡ length (content codec state) + 5 = omega arith in
-    let fits : IsContent (content codec state) = record { some = omega (arith, there, size); short = writes.short } in
-    let run : whole_run_of codec (block (content codec state)) ≡ Some (alone (content codec state) (open_entries state)) = adds codec.goes_on [] [] (open_entries state) is.open_block (no_run codec) refl in
-    record {
-      appended = subst (λ (bs : List ℕ). Appends state.written new.written bs) (sym is_block) writes.appended;
-      counted = omega (arith, writes.count, writes.short, long, is.none_counted, ap length is_block);
-      short = omega (arith, writes.short, long, ap length is_block);
-      blocks = record { content = content codec state; entries = open_entries state } ∷ [];
-      found = ap (λ bs. blocks_of codec (bs ++ zeros)) is_block ∙ one_block codec (content codec state) (open_entries state) fits (block-of_run codec (content codec state) (open_entries state) fits run);
-      same = append-nil (open_entries state);
-      one = refl;
-      not_long = λ long. absurd (omega (arith, long.1, writes.short, ap length is_content));
-    }
+ended-by : {W V : Type 0} (codec : Codec V) (told : W → Option (List ℕ)) (w last : Making W V) → Closing codec told (due_always w) last (Ok tt) → Ended codec told w last
+ended-by {W} {V} codec told w last closing = by (is_due (due_always w)) refl
   where
-    something : (xs : List ℕ) → xs ≢ [] → 0 < length xs
-    something [] some = absurd (some refl)
-    something (x ∷ xs) some = omega arith
+    by : (due : Bool) → is_due (due_always w) ≡ due → Ended codec told w last
+    by true due =
+        let closes = closing.1.0 due in
+        record {
+          ready = closing.0;
+          still = ap (λ (m : Making W V). m.refusal) closes.others ∙ closing.0;
+          short = closes.short;
+          appended = closes.appended;
+          counted = closes.counted;
+          index = closes.index;
+          count = ap (λ (m : Making W V). m.count) closes.others;
+          gathered = closes.gathered;
+          now = ap (λ d. if d then open_block codec w else []) due;
+        }
+    by false stays =
+        let same : last ≡ due_always w = closing.1.1 stays in
+        let none : w.gathered ≡ [] = none-of w.gathered (λ some. absurd (false≢true (sym stays ∙ lt-ltb _ _ (first-takes w.gathered some)))) in
+        let no_block : open_block codec w ≡ [] = ap (λ es. if_any es (record { content = content_of codec w; entries = w.gathered })) none in
+        record {
+          ready = closing.0;
+          still = ap (λ (m : Making W V). m.refusal) same ∙ closing.0;
+          short = λ long. long.0 none;
+          appended = subst (λ bs. Appends (told w.sink) (told last.sink) (bytes_of bs)) (sym no_block) (subst (λ (m : Making W V). Appends (told w.sink) (told m.sink) []) (sym same) (appends-none (told w.sink)));
+          counted = let size = ap (λ bs. length (bytes_of bs)) no_block in omega (arith, ap (λ (m : Making W V). m.counted) same, size);
+          index = ap (λ (m : Making W V). m.index) same ∙ sym (append-nil w.index) ∙ ap (λ es. w.index ++ es) (sym (ap (λ es. if_any es (unwrap_or w.last [], next_address codec w)) none));
+          count = ap (λ (m : Making W V). m.count) same;
+          gathered = ap (λ (m : Making W V). m.gathered) same ∙ none;
+          now = ap (λ d. if d then open_block codec w else []) stays ∙ sym no_block;
+        }
+      where
+        none-of : {A : Type 0} (xs : List A) → ¬ (xs ≢ []) → xs ≡ []
+        none-of [] h = refl
+        none-of (x ∷ xs) h = absurd (h (λ e. absurd (omega (arith, ap length e))))
 
-flushed : {W V : Type 0} (codec : Codec V) (written : W → Option (List ℕ)) (faults : W → ℕ) (state new : WriterState W V) (previous : Key) (n : ℕ) (range : Option (Range ℕ)) → IsMaking codec written faults state previous n
-    → Flushes codec state new (Ok range) → OnSome range (AddsToRun codec state) → Flushed codec state new n
-flushed codec written faults state new previous n None is flushes adds = flushed-none codec written faults state new previous n is flushes.0 flushes.1
-flushed codec written faults state new previous n (Some range) is flushes adds = flushed-one codec written faults state new previous n range is flushes adds
+end-same : {W V : Type 0} (codec : Codec V) (told : W → Option (List ℕ)) (w last : Making W V) → Ended codec told w last
+    → table_end last.index (last.counted + 4) last.count ≡ table_end (whole_index codec w) ((next_address codec w).end + 4) w.count
+end-same codec told w last e =
+    ap (λ i. table_end i (last.counted + 4) last.count) e.index ∙ ap (λ n. table_end (whole_index codec w) (n + 4) last.count) e.counted ∙ ap (table_end (whole_index codec w) ((next_address codec w).end + 4)) e.count
 
-count-fits : {W V : Type 0} (codec : Codec V) (written : W → Option (List ℕ)) (faults : W → ℕ) (state : WriterState W V) (previous : Key) (n : ℕ) → IsMaking codec written faults state previous n → n < 2 ^ 64
-count-fits codec written faults state previous n is = let fit = entries-fit state (open_entries state) is.open_block in omega (arith, fit, is.fits, is.count)
-
-end-is : {W V : Type 0} (codec : Codec V) (state new : WriterState W V) (n counted : ℕ) → Flushed codec state new n → counted ≡ new.counted
-    → table_end (min (counted + 4) (2 ^ 64 - 1)) n ≡ table_end (length (open_block codec (made state n)) + 4) n
-end-is codec state new n counted f same = let m : min (counted + 4) (2 ^ 64 - 1) ≡ length (open_block codec (made state n)) + 4 = omega (arith, same, f.counted, f.short) in ap (λ m. table_end m n) m
-
--- a table was written whole
-finished : {W V : Type 0} (codec : Codec V) (written : W → Option (List ℕ)) (faults : W → ℕ) (state new : WriterState W V) (previous : Key) (n : ℕ) (middle now : Option (List ℕ)) (counted : ℕ) → IsMaking codec written faults state previous n
-    → Flushed codec state new n → middle ≡ new.written → counted ≡ new.counted → Appends middle now (table_end (min (counted + 4) (2 ^ 64 - 1)) n) → AppendsTable codec (made state n) (written state.sink) now
-finished codec written faults state new previous n middle now counted is f same_middle same_count writes =
-    let w = made state n in
-    let few = count-fits codec written faults state previous n is in
-    let first : Appends (written state.sink) middle (open_block codec (made state n)) =
-    subst (λ (a : Option (List ℕ)). Appends a middle (open_block codec (made state n))) is.told (subst (λ (b : Option (List ℕ)). Appends state.written b (open_block codec (made state n))) (sym same_middle) f.appended) in
-    let second : Appends middle now (table_end (length (open_block codec (made state n)) + 4) n) =
-    subst (λ (bs : List ℕ). Appends middle now bs) (end-is codec state new n counted f same_count) writes in
+-- a table of the closed blocks and then the last one
+is-table : {W V : Type 0} (codec : Codec V) (told : W → Option (List ℕ)) (w last : Making W V) (blocks : List (Block V)) → Ended codec told w last → AreBlocks codec last (blocks ++ closed_now codec (due_always w)) → last.counted + 4 < 2 ^ 64 → last.count < 2 ^ 64
+    → index_of_version 3 (index_part last.index) ≡ Some (index_of last.index) → IsTable codec w blocks (bytes_of blocks ++ ending codec w)
+is-table {W} {V} codec told w last blocks e are small few told_is =
+    let all : List (Block V) = blocks ++ open_block codec w in
+    let are' : AreBlocks codec last all = subst (λ bs. AreBlocks codec last (blocks ++ bs)) e.now are in
+    let tells = tells-whole codec last all are' e.gathered small few told_is in
+    let same : bytes_of all ++ table_end last.index (last.counted + 4) last.count ≡ bytes_of blocks ++ ending codec w =
+    ap (λ end. bytes_of all ++ end) (end-same codec told w last e)
+    ∙ ap (λ bs. bs ++ table_end (whole_index codec w) ((next_address codec w).end + 4) w.count) (bytes-both blocks (open_block codec w))
+    ∙ append_assoc (bytes_of blocks) (bytes_of (open_block codec w)) (table_end (whole_index codec w) ((next_address codec w).end + 4) w.count) in
+    let t : Tells codec all (bytes_of blocks ++ ending codec w) = subst (λ bs. Tells codec all bs) same tells in
     record {
-      table = table_bytes codec (made state n);
-      bytes = refl;
-      appended = Appends-trans (written state.sink) middle now (open_block codec (made state n)) (table_end (length (open_block codec (made state n)) + 4) n) first second;
-      told = told-whole codec (open_block codec (made state n)) f.blocks n f.short few f.found (is.count ∙ ap length (sym f.same)) f.one ∙ ap Some f.same;
-      version = (has-footer (open_block codec (made state n)) n f.short few).told;
-      ready = ready-whole (open_block codec (made state n)) n f.short few;
-      short = f.not_long;
+      told = t.told ∙ ap Some (entries-both blocks (open_block codec w) ∙ ap (λ es. entries_of blocks ++ es) (entries-open codec w));
+      blocks = t.in_blocks;
+      version = t.version;
+      ready = t.ready;
     }
 
-stops-by : {W V : Type 0} (codec : Codec V) (w : Making W V) (start now : Option (List ℕ)) (error : SstWriteError) → IsSinkError error → AppendsPrefix start now (table_bytes codec w) → StopsTable codec w start now error
-stops-by codec w start now error (inl e) prefix = subst (λ x. StopsTable codec w start now x) (sym e) prefix
-stops-by codec w start now error (inr e) prefix = subst (λ x. StopsTable codec w start now x) (sym e) prefix
+sink-error : {W V : Type 0} (codec : Codec V) (w : Making W V) (old new : Option (List ℕ)) (error : SstWriteError) → IsSinkError error → w.refusal ≡ None → ¬ IsTooLong codec w → AppendsPrefix old new (ending codec w) → StopsTable codec w old new error
+sink-error codec w old new error (inl e) ready short prefix = subst (λ x. StopsTable codec w old new x) (sym e) (ready, prefix)
+sink-error codec w old new error (inr e) ready short prefix = subst (λ x. StopsTable codec w old new x) (sym e) (ready, prefix, short)
 
--- the end of a table was not written whole
-cut_short : {W V : Type 0} (codec : Codec V) (written : W → Option (List ℕ)) (faults : W → ℕ) (state new : WriterState W V) (previous : Key) (n : ℕ) (middle now : Option (List ℕ)) (counted : ℕ) (error : SstWriteError) → IsMaking codec written faults state previous n
-    → Flushed codec state new n → middle ≡ new.written → counted ≡ new.counted → AppendsPrefix middle now (table_end (min (counted + 4) (2 ^ 64 - 1)) n) → IsSinkError error → StopsTable codec (made state n) (written state.sink) now error
-cut_short codec written faults state new previous n middle now counted error is f same_middle same_count writes reason =
-    let first : Appends (written state.sink) middle (open_block codec (made state n)) =
-    subst (λ (a : Option (List ℕ)). Appends a middle (open_block codec (made state n))) is.told (subst (λ (b : Option (List ℕ)). Appends state.written b (open_block codec (made state n))) (sym same_middle) f.appended) in
-    let second : AppendsPrefix middle now (table_end (length (open_block codec (made state n)) + 4) n) =
-    subst (λ (bs : List ℕ). AppendsPrefix middle now bs) (end-is codec state new n counted f same_count) writes in
-    stops-by codec (made state n) (written state.sink) now error reason
-    (AppendsPrefix-second (written state.sink) middle now (open_block codec (made state n)) (table_end (length (open_block codec (made state n)) + 4) n) first second)
+-- what finishing did, once the last block was closed
+finish-by : {W V : Type 0} (codec : Codec V) (told : W → Option (List ℕ)) (w last : Making W V) (before : Option (List ℕ)) (index : List IndexEntry) (counted count : ℕ) (result : Result W (Unfinished W SstWriteError))
+    → Closing codec told (due_always w) last (Ok tt) → IfSome w.closed (λ blocks. AreBlocks codec last (blocks ++ closed_now codec (due_always w)))
+    → IfSome w.closed (AreLast (told w.sink) w.counted)
+    → last.counted + 4 < 2 ^ 64 → last.count < 2 ^ 64 → before ≡ told last.sink → index ≡ last.index → counted ≡ last.counted → count ≡ last.count
+    → WritesAll before (told (handed result)) result (table_end index (counted + 4) count)
+    → IfOk result (λ sink. index_of_version 3 (index_part index) ≡ Some (index_of index)) → IfErr result (λ unfinished. IsSinkError unfinished.error) → Finishing codec told w result
+finish-by {W} {V} codec told w last before index counted count result closing are behind small few b i c n writes index_is error =
+    by result (subst (λ x. WritesAll x (told (handed result)) result (table_end last.index (last.counted + 4) last.count)) b (subst (λ bs. WritesAll before (told (handed result)) result bs) same_end writes)) (subst (λ x. IfOk result (λ sink. index_of_version 3 (index_part x) ≡ Some (index_of x))) i index_is) error
+  where
+    e : Ended codec told w last
+    e = ended-by codec told w last closing
 
--- what finishing did, once the block was written out
-pub finishes : {W V : Type 0} (codec : Codec V) (written : W → Option (List ℕ)) (faults : W → ℕ) (state new : WriterState W V) (previous : Key) (n : ℕ) (range : Option (Range ℕ)) (middle : Option (List ℕ)) (counted : ℕ)
-    (result : Result W (Unfinished W SstWriteError)) → IsMaking codec written faults state previous n → Flushes codec state new (Ok range) → OnSome range (AddsToRun codec state) → middle ≡ new.written → counted ≡ new.counted
-    → WritesAll middle (written (handed result)) result (table_end (min (counted + 4) (2 ^ 64 - 1)) n) → IfErr result (λ unfinished. IsSinkError unfinished.error) → Finishing codec written (made state n) result
-finishes codec written faults state new previous n range middle counted (Ok sink) is flushes adds same_middle same_count writes error =
-    finished codec written faults state new previous n middle (written sink) counted is (flushed codec written faults state new previous n range is flushes adds) same_middle same_count writes
-finishes codec written faults state new previous n range middle counted (Err unfinished) is flushes adds same_middle same_count writes error =
-    cut_short codec written faults state new previous n middle (written unfinished.sink) counted unfinished.error is (flushed codec written faults state new previous n range is flushes adds) same_middle same_count writes error
+    same_end : table_end index (counted + 4) count ≡ table_end last.index (last.counted + 4) last.count
+    same_end = ap (λ x. table_end x (counted + 4) count) i ∙ ap (λ x. table_end last.index (x + 4) count) c ∙ ap (table_end last.index (last.counted + 4)) n
+
+    by : (result : Result W (Unfinished W SstWriteError)) → WritesAll (told last.sink) (told (handed result)) result (table_end last.index (last.counted + 4) last.count) → IfOk result (λ sink. index_of_version 3 (index_part last.index) ≡ Some (index_of last.index))
+        → IfErr result (λ unfinished. IsSinkError unfinished.error) → Finishing codec told w result
+    by (Ok sink) writes told_is error = record {
+      ready = e.ready;
+      short = e.short;
+      appended = Appends-trans (told w.sink) (told last.sink) (told sink) (bytes_of (open_block codec w)) (table_end (whole_index codec w) ((next_address codec w).end + 4) w.count) e.appended
+          (subst (λ bs. Appends (told last.sink) (told sink) bs) (end-same codec told w last e) writes);
+      behind = behind;
+      table = if_some w.closed (λ blocks is. is-table codec told w last blocks e (of_some (λ bs. AreBlocks codec last (bs ++ closed_now codec (due_always w))) w.closed blocks is are) small few told_is);
+    }
+    by (Err unfinished) writes told_is error =
+        sink-error codec w (told w.sink) (told unfinished.sink) unfinished.error error e.ready e.short
+        (AppendsPrefix-second (told w.sink) (told last.sink) (told unfinished.sink) (bytes_of (open_block codec w)) (table_end (whole_index codec w) ((next_address codec w).end + 4) w.count) e.appended
+        (subst (λ bs. AppendsPrefix (told last.sink) (told unfinished.sink) bs) (end-same codec told w last e) writes))
 
 keeps-same : (a b : Option (List ℕ)) → b ≡ a → Keeps a b
 keeps-same None b e = tt
 keeps-same (Some xs) None e = absurd cc
 keeps-same (Some xs) (Some ys) e = some_is ys xs e
 
--- the block was not written whole
-pub no_block : {W V : Type 0} (codec : Codec V) (written : W → Option (List ℕ)) (faults : W → ℕ) (state new : WriterState W V) (previous : Key) (n : ℕ) (e : DeltaError) (now : Option (List ℕ)) → IsMaking codec written faults state previous n
-    → KeepsBlock codec state new e → now ≡ new.written → StopsTable codec (made state n) (written state.sink) now (error_of_delta e)
-no_block codec written faults state new previous n e now is keeps same =
-    let is_content = content-same codec written faults state previous n is in
-    let is_block : open_block codec (made state n) ≡ block (content codec state) = block-same codec written faults state previous n is keeps.some in
-    let prefix : AppendsPrefix (written state.sink) now (open_block codec (made state n)) =
-    subst (λ (a : Option (List ℕ)). AppendsPrefix a now (open_block codec (made state n))) is.told
-    (subst (λ (b : Option (List ℕ)). AppendsPrefix state.written b (open_block codec (made state n))) (sym same)
-    (subst (λ (bs : List ℕ). AppendsPrefix state.written new.written bs) (sym is_block) keeps.prefix)) in
-    let kept : e ≡ deltas.BlockTooLong → Keeps (written state.sink) now =
-    λ long. keeps-same (written state.sink) now (same ∙ ap (λ (s : WriterState _ _). s.written) (keeps.nothing long) ∙ is.told) in
-    let too_long : e ≡ deltas.BlockTooLong → IsTooLong codec (made state n) =
-    λ long. (some-entry codec written faults state previous n is keeps.some, omega (arith, keeps.too_long long, ap length is_content)) in
-    by e too_long kept (AppendsPrefix-first (written state.sink) now (open_block codec (made state n)) (table_end (length (open_block codec (made state n)) + 4) n) prefix)
+-- the last block was not closed
+stop-by : {W V : Type 0} (codec : Codec V) (told : W → Option (List ℕ)) (w last : Making W V) (now : Option (List ℕ)) (error : SstWriteError) → IsRefusal w.refusal → Closing codec told (due_always w) last (Err error) → now ≡ told last.sink
+    → StopsTable codec w (told w.sink) now error
+stop-by {W} {V} codec told w last now error final (inl refused) same =
+    let kept : Keeps (told w.sink) now = keeps-same (told w.sink) now (same ∙ ap (λ (m : Making W V). told m.sink) refused.1) in
+    by error (subst IsRefusal refused.0 final) refused.0 kept
   where
-    by : (e : DeltaError) → (e ≡ deltas.BlockTooLong → IsTooLong codec (made state n)) → (e ≡ deltas.BlockTooLong → Keeps (written state.sink) now) → AppendsPrefix (written state.sink) now (table_bytes codec (made state n))
-        → StopsTable codec (made state n) (written state.sink) now (error_of_delta e)
-    by deltas.Memory long kept prefix = prefix
-    by deltas.Write long kept prefix = prefix
-    by deltas.BlockTooLong long kept prefix = (long refl, kept refl)
+    by : (e : SstWriteError) → IsRefusal (Some e) → w.refusal ≡ Some e → Keeps (told w.sink) now → StopsTable codec w (told w.sink) now e
+    by Memory final is kept = absurd final
+    by Write final is kept = absurd final
+    by Unsorted final is kept = absurd final
+    by ValueRefused final is kept = absurd final
+    by BlockTooLong final is kept = (inl is, kept)
+    by Spent final is kept = (is, kept)
+stop-by {W} {V} codec told w last now error final (inr closing) same = by error closing.1.1
+  where
+    by : (e : SstWriteError) → FailsToClose codec told (due_always w) last e → StopsTable codec w (told w.sink) now e
+    by Memory fails = (
+      closing.0,
+      AppendsPrefix-first (told w.sink) now (bytes_of (open_block codec w)) (table_end (whole_index codec w) ((next_address codec w).end + 4) w.count)
+          (subst (λ x. AppendsPrefix (told w.sink) x (bytes_of (open_block codec w))) (sym same) fails.1),
+    )
+    by Write fails = (
+      closing.0,
+      AppendsPrefix-first (told w.sink) now (bytes_of (open_block codec w)) (table_end (whole_index codec w) ((next_address codec w).end + 4) w.count)
+          (subst (λ x. AppendsPrefix (told w.sink) x (bytes_of (open_block codec w))) (sym same) fails.1),
+      fails.2,
+    )
+    by Unsorted fails = absurd fails
+    by ValueRefused fails = absurd fails
+    by BlockTooLong fails = (inr (closing.0, fails.0), keeps-same (told w.sink) now (same ∙ ap (λ (m : Making W V). told m.sink) fails.1))
+    by Spent fails = absurd fails
+
+-- the same, by how the writer stands
+pub finish-made : {W V : Type 0} (codec : Codec V) (told : W → Option (List ℕ)) (faults : W → ℕ) (state new : WriterState W V) (index : List IndexEntry) (previous : Key) (n first : ℕ) (refusal : Option SstWriteError) (last : Making W V)
+    (before : Option (List ℕ)) (index' : List IndexEntry) (counted count : ℕ) (result : Result W (Unfinished W SstWriteError))
+    → IsMaking codec told faults state index previous n first refusal → new ≡ record state { block_len = 0 }
+    → Closing codec told (made codec new index previous n first refusal) last (Ok tt)
+    → IfSome (made codec new index previous n first refusal).closed (λ blocks. AreBlocks codec last (blocks ++ closed_now codec (made codec new index previous n first refusal)))
+    → (last.refusal ≡ None → last.counted + 4 < 2 ^ 64) → (last.refusal ≡ None → last.count < 2 ^ 64) → before ≡ told last.sink → index' ≡ last.index → counted ≡ last.counted → count ≡ last.count
+    → WritesAll before (told (handed result)) result (table_end index' (counted + 4) count)
+    → IfOk result (λ sink. index_of_version 3 (index_part index') ≡ Some (index_of index')) → IfErr result (λ unfinished. IsSinkError unfinished.error)
+    → Finishing codec told (made codec state index previous n first refusal) result
+finish-made {W} {V} codec told faults state new index previous n first refusal last before index' counted count result is len closing are fits few b i c m writes index_is error =
+    let w : Making W V = made codec state index previous n first refusal in
+    let same : made codec new index previous n first refusal ≡ due_always w = made-len codec state new index previous n first refusal 0 len in
+    let closing' = subst (λ x. Closing codec told x last (Ok tt)) same closing in
+    let are' = subst (λ (x : Making W V). IfSome x.closed (λ blocks. AreBlocks codec last (blocks ++ closed_now codec x))) same are in
+    let e = ended-by codec told w last closing' in
+    finish-by codec told w last before index' counted count result closing' are' (are-last codec told state index first is.told) (fits e.still) (few e.still) b i c m writes index_is error
+
+pub stop-made : {W V : Type 0} (codec : Codec V) (told : W → Option (List ℕ)) (faults : W → ℕ) (state new : WriterState W V) (index : List IndexEntry) (previous : Key) (n first : ℕ) (refusal : Option SstWriteError) (last : Making W V) (now : Option (List ℕ)) (error : SstWriteError)
+    → IsMaking codec told faults state index previous n first refusal → new ≡ record state { block_len = 0 }
+    → Closing codec told (made codec new index previous n first refusal) last (Err error) → now ≡ told last.sink
+    → StopsTable codec (made codec state index previous n first refusal) (told state.sink) now error
+stop-made {W} {V} codec told faults state new index previous n first refusal last now error is len closing same =
+    let w : Making W V = made codec state index previous n first refusal in
+    stop-by codec told w last now error is.final (subst (λ x. Closing codec told x last (Err error)) (made-len codec state new index previous n first refusal 0 len) closing) same
+
+-- ---- the index part
+
+-- what was appended of it
+pub index-bytes : (entries : List IndexEntry) (old new : Option (List ℕ)) (result : Result ℕ SstWriteError) → Serializes entries old new result → are_rising entries ≡ true → WritesAll old new result (index_part entries)
+index-bytes entries old new (Ok len) s rising = s.appended
+index-bytes entries old new (Err Memory) s rising = s.front
+index-bytes entries old new (Err Write) s rising = s.front
+index-bytes entries old new (Err Unsorted) s rising = absurd (false≢true (sym s.0 ∙ rising))
+index-bytes entries old new (Err ValueRefused) s rising = absurd s
+index-bytes entries old new (Err BlockTooLong) s rising = absurd s
+index-bytes entries old new (Err Spent) s rising = absurd s
+
+-- its keys rise, so a sink failed or there was no memory
+pub index-error : (entries : List IndexEntry) (old new : Option (List ℕ)) (e : SstWriteError) → Serializes entries old new (Err e) → are_rising entries ≡ true → IsSinkError e
+index-error entries old new Memory s rising = inl refl
+index-error entries old new Write s rising = inr refl
+index-error entries old new Unsorted s rising = absurd (false≢true (sym s.0 ∙ rising))
+index-error entries old new ValueRefused s rising = absurd s
+index-error entries old new BlockTooLong s rising = absurd s
+index-error entries old new Spent s rising = absurd s

@@ -1,5 +1,9 @@
 pub mod ReaderLaws
+pub mod IndexLaws
+pub mod Blocks
 pub mod Gathering
 pub mod Gathered
+pub mod Closing
+pub mod Inserting
 pub mod Finishing
 pub mod RangeTables

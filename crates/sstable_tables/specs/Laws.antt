@@ -1,18 +1,20 @@
 -- Laws of writers of tables of ranges.
-use Rattle.std.specs.Prelude.{◌≡◌, ℕ, ◌+◌, ◌*◌, ◌^◌, ◌<◌, ◌≤◌, List, [], ◌∷◌, ◌++◌, length, map, true, Some, ◌==◌}
+use Rattle.std.specs.Prelude.{◌≡◌, ℕ, ◌+◌, ◌*◌, ◌^◌, ◌<◌, ◌≤◌, List, [], ◌∷◌, ◌++◌, length, map, true, Some, None, ◌==◌}
 use Rattle.std.specs.declared.ops.Range.{Range}
 use Rattle.owned_bytes.specs.Keys.{Key}
 use Rattle.sstable_values.specs.Codec.{range}
 use Rattle.sstable_values.specs.Range.{ends_at}
 use Rattle.sstable_blocks.specs.Run.{last_key}
-use Rattle.sstable_tables.specs.Making.{Making, IsTooLong, gathered_values}
+use Rattle.sstable_tables.specs.Making.{Making, IsTooLong, gathered_values, greatest_len}
 
--- These entries were inserted into a new writer, and all of them are in its open block.
+-- These entries were inserted into a new writer, and all of them are in its open block, which no insertion closes.
 pub record HasGathered {W V : Type 0} (w : Making W V) (sink : W) (entries : List (Key × V)) : Type 0 where
   pub closed : w.closed ≡ Some []
   pub gathered : w.gathered ≡ entries
   pub last : w.last ≡ last_key entries
   pub count : w.count ≡ length entries
+  pub block_len : w.block_len ≡ greatest_len
+  pub ready : w.refusal ≡ None
   pub same_sink : w.sink ≡ sink
 
 -- how many bytes the keys have in all

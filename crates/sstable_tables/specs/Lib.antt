@@ -1,5 +1,4 @@
 pub mod Making
 pub mod Laws
 pub mod Reading
-pub mod Errors
 pub mod Made

@@ -1,5 +1,5 @@
 -- What the front of a block's content says of the values in the block.
-use Rattle.std.specs.Prelude.{ℕ, zero, suc, ◌+◌, ◌-◌, ◌^◌, List, [], ◌∷◌, ◌++◌, length, map, Bool, true, false, nat_lt, nat_le, ◌&&◌, ◌==◌, Option, None, Some}
+use Rattle.std.specs.Prelude.{ℕ, zero, suc, ◌+◌, ◌-◌, ◌^◌, ◌<◌, All, Vec, List, [], ◌∷◌, ◌++◌, length, map, Bool, true, false, nat_lt, nat_le, ◌&&◌, ◌==◌, Option, None, Some}
 use Rattle.std.specs.Int.{w32, to_le_bytes}
 use Rattle.std.specs.List.{flat_map}
 use Rattle.std.specs.declared.ops.Range.{Range}
@@ -115,6 +115,18 @@ first_start (address ∷ others) = address.start
 abbrev pub comes_after : Address → Address → Bool
 comes_after address before = before.end == address.start && nat_le before.first_ordinal address.first_ordinal
 
+-- each block comes after the one before it, and ends at its start or above; the first starts at start, and its ordinal
+-- isn't below ordinal
+abbrev pub adjoin_from : ℕ → ℕ → List Address → Bool
+adjoin_from start ordinal [] = true
+adjoin_from start ordinal (address ∷ others) =
+    nat_le address.start address.end && (start == address.start && nat_le ordinal address.first_ordinal)
+    && adjoin_from address.end address.first_ordinal others
+
+-- the places of blocks that adjoin
+abbrev pub are_in_turn : List Address → Bool
+are_in_turn found = adjoin_from (first_start found) 0 found
+
 -- counts and lengths of 32 bits are below this
 abbrev pub count_limit : ℕ
 count_limit = 2 ^ 32
@@ -127,6 +139,14 @@ list_at = do
 
 abbrev pub list : List ℕ → List ℕ
 list numbers = to_le_bytes w32 (length numbers) ++ flat_map (to_le_bytes w32) numbers
+
+-- a count of 32 bits holds how many lists there are, and how long each is
+abbrev pub AreCountable : List (List ℕ) → Type 0
+AreCountable lists = (length lists < count_limit) × All (λ numbers. length numbers < count_limit) lists
+
+-- the numbers of each vector
+abbrev pub items_of : {A : Type 0} → List (Vec ℕ A) → List (List ℕ)
+items_of vectors = map (λ numbers. numbers.items) vectors
 
 -- no value but one, which takes no byte
 unfoldable pub void : Codec (Unit {0})

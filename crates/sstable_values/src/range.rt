@@ -31,6 +31,9 @@ fn read_ranges(content: &[u8], vals: &mut Vec<Range<u64>>) -> Result<usize, Bloc
         return Err(BlockError::Corrupt);
     };
     let mut taken = count_len + first_len;
+    // A boundary takes a byte or more.
+    let room = (count - 1).min((content.len() - taken) as u64);
+    vals.reserve(room as usize)?;
     let mut before = first;
     for _i in 1..count {
         let Some((len, difference)) = vint::deserialize_read(&content[taken..]) else {

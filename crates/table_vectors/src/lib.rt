@@ -4,8 +4,6 @@
 #[cfg(test)]
 mod blocks;
 #[cfg(test)]
-mod keys;
-#[cfg(test)]
 mod reading;
 #[cfg(test)]
 mod table;

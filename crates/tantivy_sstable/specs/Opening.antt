@@ -3,6 +3,7 @@ use Rattle.std.specs.Prelude.{◌≡◌, ℕ, ◌+◌, ◌≤◌, List, length, 
 use Rattle.owned_bytes.specs.Outside.{FileState, LeavesFile}
 use Rattle.common_wire.specs.Slices.{Span}
 use Rattle.sstable_values.specs.Codec.{Codec}
+use Rattle.sstable_format.specs.Footer.{footer_len}
 use Rattle.sstable_format.specs.Table.{index_part_of, table_blocks, sst_of}
 use Rattle.sstable_format.specs.Version.{version_of, is_known, has_known_version, has_unknown_version}
 use Rattle.sstable_format.specs.Refused.{is_waiting, is_compressed_at}
@@ -42,7 +43,7 @@ OpensAt codec (Some contents) range result = Opens codec contents (table_at cont
 -- Where the contents are told, a count rose by no more than the lengths of the footer and the index part.
 abbrev pub FetchesIndex : Option (List ℕ) → Span → ℕ → ℕ → Type 0
 FetchesIndex None range before now = ⊤
-FetchesIndex (Some contents) range before now = now ≤ before + (20 + length (index_part_of (table_at contents range)))
+FetchesIndex (Some contents) range before now = now ≤ before + (footer_len + length (index_part_of (table_at contents range)))
 
 -- The footer and the index part of the table at a range were read, in at most two reads, and no other byte.
 pub record ReadsEnds (before now : FileState) (range : Span) (failure : Type 0) : Type 0 where

@@ -2,6 +2,7 @@
 use Rattle.std.specs.Prelude.{◌≡◌, ℕ, ◌-◌, List, ⊤, true, false, Some, None, Result, Ok, Err}
 use Rattle.common_wire.specs.Slices.{Span, span_len}
 use Rattle.sstable_format.specs.declared.footer.Footer.{Footer}
+use Rattle.sstable_format.specs.Footer.{footer_len}
 use Rattle.sstable_format.specs.Ending.{HasFooter}
 use Rattle.sstable_format.specs.Table.{parts_of, index_part_at}
 use Rattle.sstable_format.specs.Version.{version_of, is_known, has_unknown_version}
@@ -29,4 +30,4 @@ ReadsIndexAt footer result table = ReadsIndex footer (index_part_at footer.index
 
 -- the length of the index part of a table at a range
 abbrev pub part_len : Footer → Span → ℕ
-part_len footer range = span_len range - 20 - footer.index_offset
+part_len footer range = span_len range - footer_len - footer.index_offset

@@ -13,8 +13,13 @@ pub use dictionary::Dictionary;
 pub use fst_map;
 pub use sstable_blocks;
 pub use sstable_blocks::BlockAddr;
-pub use sstable_index::{SSTableIndex, SSTableIndexV2, SSTableIndexV3Empty, SstError};
-pub use sstable_tables::{
-    Reader, SstWriteError, Unfinished, Writer, adjoining_ranges_are_taken, short_ranges_fit,
+pub use sstable_index::{
+    SSTableIndex, SSTableIndexBuilder, SSTableIndexV2, SSTableIndexV3Empty, SstError,
+    SstWriteError, Unfinished,
 };
-pub use table::{RangeSSTable, SSTable};
+pub use sstable_tables::{
+    KeyPending, Reader, Writer, adjoining_ranges_are_taken, short_ranges_fit,
+};
+pub use table::{
+    MonotonicU64SSTable, RangeSSTable, SSTable, TermOrdinal, VecU32ValueSSTable, VoidSSTable,
+};

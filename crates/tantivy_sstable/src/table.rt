@@ -11,11 +11,15 @@ ghost use Rattle.sstable_tables.specs.Reading.{HasRun, HasLeft};
 use crate::{Reader, Writer};
 use owned_bytes::{OwnedBytes, Sink};
 use sstable_blocks::{
-    DeltaReader, DeltaWriter, RangeValueReader, RangeValueWriter, StoredValue, ValueReader,
-    ValueWriter,
+    DeltaReader, DeltaWriter, RangeValueReader, RangeValueWriter, StoredValue,
+    U64MonotonicValueReader, U64MonotonicValueWriter, ValueReader, ValueWriter, VecU32ValueReader,
+    VecU32ValueWriter, VoidValueReader, VoidValueWriter,
 };
 use std::alloc::{AllocError, Global};
 use std::ops::Range;
+
+/// The position of a key in its table, from 0 on.
+pub type TermOrdinal = u64;
 
 /// A kind of table: the values that it stores, and how.
 pub trait SSTable: Sized {
@@ -48,7 +52,8 @@ pub trait SSTable: Sized {
 
     /// A writer of a table that is appended to what the sink has.
     fn writer<W: Sink>(alloc: Global, wrt: W) -> Writer<W, Self::ValueWriter>
-        ensures { made.Begins result wrt }
+        ensures begins { made.Begins result wrt }
+        ensures small { made.HasSmallBlocks result }
     {
         Writer::new(alloc, wrt)
     }
@@ -83,6 +88,66 @@ pub trait SSTable: Sized {
 
     /// What a writer writes is what a reader reads.
     ghost same_codec: { Self.ValueReader.codec ≡ Self.ValueWriter.codec };
+}
+
+/// Tables of keys alone.
+#[derive(Clone, Copy, Debug)]
+pub struct VoidSSTable;
+
+impl SSTable for VoidSSTable {
+    ghost use Rattle.std.specs.Prelude.{refl};
+
+    type Value = ();
+
+    type ValueReader = VoidValueReader;
+
+    type ValueWriter = VoidValueWriter;
+
+    ghost same_codec = { refl };
+
+    fn clone_value(_alloc: Global, _value: &()) -> Result<(), AllocError> {
+        Ok(())
+    }
+}
+
+/// Tables of numbers that don't fall within a block.
+#[derive(Clone, Copy, Debug)]
+pub struct MonotonicU64SSTable;
+
+impl SSTable for MonotonicU64SSTable {
+    ghost use Rattle.std.specs.Prelude.{refl};
+
+    type Value = u64;
+
+    type ValueReader = U64MonotonicValueReader;
+
+    type ValueWriter = U64MonotonicValueWriter;
+
+    ghost same_codec = { refl };
+
+    fn clone_value(_alloc: Global, value: &u64) -> Result<u64, AllocError> {
+        Ok(*value)
+    }
+}
+
+/// Tables of lists of numbers.
+#[derive(Clone, Copy, Debug)]
+pub struct VecU32ValueSSTable;
+
+impl SSTable for VecU32ValueSSTable {
+    ghost use Rattle.std.specs.Prelude.{refl};
+
+    type Value = Vec<u32>;
+
+    type ValueReader = VecU32ValueReader;
+
+    type ValueWriter = VecU32ValueWriter;
+
+    ghost same_codec = { refl };
+
+    fn clone_value(alloc: Global, value: &Vec<u32>) -> Result<Vec<u32>, AllocError> {
+        value.to_vec(alloc)
+    }
 }
 
 /// Tables of ranges, each of which starts where the one before it in its block ends.

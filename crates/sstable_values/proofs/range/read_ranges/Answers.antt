@@ -19,7 +19,7 @@ returns-in_default-deserialize_read c =
 pub loop-i-init : goal.loop-i-init
 loop-i-init c =
     let e = rest_is c.in-Some.count_len c.args.content.now in
-    rw c.requires (Spans-begin _ _ _ _ _ _ c.in-Some.ensures.found (omega (arith, c.if-count-eq0.false))
+    rw (c.in_ok-reserve.ensures.items, c.requires) (Spans-begin _ _ _ _ _ _ c.in-Some.ensures.found (omega (arith, c.if-count-eq0.false))
     (rw e at c.in-Some-deserialize_read.ensures.found) c.in-Some.ensures.within.1 (rw e at c.in-Some-deserialize_read.ensures.within).1)
 
 pub returns-in_default-deserialize_read-2 : goal.returns-in_default-deserialize_read-2

@@ -1,0 +1,16 @@
+pub mod Deviating
+pub mod Between
+pub mod Splits
+pub mod Metas
+pub mod Nearness
+pub mod Groups
+pub mod StoreLaw
+pub mod Cutting
+pub mod Elements
+pub mod Shortening
+pub mod LineSteps
+pub mod PackSteps
+pub mod WriteSteps
+pub mod Passing
+pub mod Opening
+pub mod Stored

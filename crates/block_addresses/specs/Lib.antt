@@ -1,0 +1,9 @@
+pub mod Lines
+pub mod Written
+pub mod Found
+pub mod Shortened
+pub mod Opened
+pub mod Shown
+pub mod Laws
+pub mod Computes
+pub mod Rows

@@ -1,0 +1,9 @@
+//! Worked rows of the index of a table's blocks, as tests.
+#![tactic(auto)]
+
+#[cfg(test)]
+mod blocks;
+#[cfg(test)]
+mod order;
+#[cfg(test)]
+mod parts;
