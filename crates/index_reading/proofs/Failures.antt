@@ -28,7 +28,6 @@ failed-in start sst.Read e is failed = refl
 failed-in start sst.Corrupt e is failed = absurd cc
 failed-in start (sst.Compressed place) e is failed = absurd cc
 failed-in start (sst.Version version) e is failed = absurd cc
-failed-in start sst.NotYet e is failed = absurd cc
 
 pub unread-by : (h : HandleError) (e : IndexError) → e ≡ error_of_handle h → IsReadError e
 unread-by handle.Memory e is = inl is

@@ -1,18 +1,18 @@
 -- What the front and the end of an index file tell of it.
 use Rattle.std.proofs.Common.{◌≡◌, ℕ, ◌+◌, ◌<◌, ◌≤◌, List, length, take, drop, Option, Some, None, true, false, refl, ap, sym, ◌∙◌, arith, length-drop, drop-drop, Err, leb}
 use Rattle.std.proofs.lemmas.Bool.{leb-true, leb-false}
-use Rattle.std.specs.Int.{Width, byte_len, w32, w64, from_le_bytes}
+use Rattle.std.specs.Int.{w32, w64, from_le_bytes}
 use Rattle.std.specs.Prelude.{is_some, not}
 use Rattle.owned_bytes.specs.Front.{◌>>=◌, provided, number_at, bytes_at}
 use Rattle.owned_bytes.specs.Outside.{HasLength}
 use Rattle.sstable_values.specs.Codec.{range}
 use Rattle.sstable_format.specs.Table.{sst_of}
 use Rattle.sstable_format.specs.Version.{is_known, has_unknown_version}
-use Rattle.sstable_format.specs.Refused.{is_waiting}
+use Rattle.sstable_format.proofs.Compressed.{number_at-short}
 use Rattle.sstable_format.proofs.Ends.{at_end-none, number_at-front, bytes_at-front, bytes_at-none}
 use Rattle.index_file.specs.Header.{Header, packed_length, header_at}
 use Rattle.index_file.specs.IndexFile.{table_of, postings_of}
-use Rattle.index_file.specs.Opening.{IsDamaged, is_waiting_file}
+use Rattle.index_file.specs.Opening.{IsDamaged}
 use Rattle.index_reading.specs.declared.errors.IndexError.TheVariants.{Corrupt}
 use Rattle.index_reading.specs.Opening.{OpensTold}
 
@@ -26,9 +26,6 @@ count_in file = from_le_bytes w64 (take 8 (drop 4 file))
 -- the header and what is behind it, by how many bytes the packed numbers take
 abbrev behind : ℕ → ℕ → Option (List ℕ × List ℕ) → Option (Header × List ℕ)
 behind documents count o = o >>= (λ packed. Some (record { documents = documents; count = count; packed = packed.0 }, packed.1))
-
-pub number_at-short : (w : Width) (bytes : List ℕ) → length bytes < byte_len w → number_at w bytes ≡ None
-number_at-short w bytes short = ap (λ o. o >>= (λ (piece : List ℕ × List ℕ). Some (from_le_bytes w piece.0, piece.1))) (bytes_at-none (byte_len w) bytes short)
 
 header_at-by : (file : List ℕ) → 12 ≤ length file
     → header_at file ≡ behind (documents_in file) (count_in file) (bytes_at (packed_length (documents_in file) (count_in file)) (drop 12 file))
@@ -75,11 +72,8 @@ pub table_of-none : (file : List ℕ) → header_at file ≡ None → table_of f
 unfolding table_of
 table_of-none file none = ap (λ o. o >>= (λ (parts : Header × List ℕ). sst_of range parts.1 >>= (λ entries. postings_of parts.0 entries))) none
 
-pub not_waiting-none : (file : List ℕ) → header_at file ≡ None → is_waiting_file file ≡ false
-not_waiting-none file none = ap (λ o. is_some (o >>= (λ (parts : Header × List ℕ). provided (is_waiting parts.1)))) none
-
 pub damaged-none : (file : List ℕ) → has_unknown_version file ≡ false → header_at file ≡ None → IsDamaged file
-damaged-none file known none = record { no_other_version = known; ready = not_waiting-none file none; no_table = table_of-none file none }
+damaged-none file known none = record { no_other_version = known; no_table = table_of-none file none }
 
 no_version : (file : List ℕ) → length file < 4 → has_unknown_version file ≡ false
 no_version file short = ap (λ o. is_some ((o >>= (λ (ended : ℕ × List ℕ). Some ended.0)) >>= (λ v. provided (not (is_known v))))) (at_end-none 4 (number_at w32) file short)

@@ -20,7 +20,7 @@ use Rattle.index_file.specs.Header.{width_of, numbers_in}
 use Rattle.index_file.specs.IndexFile.{adjoin, is_increasing, is_key, with_numbers, is_posting, postings_of}
 use Rattle.index_reading.specs.declared.open.OpenIndex.{OpenIndex}
 use Rattle.index_reading.specs.declared.errors.IndexError.{IndexError}
-use Rattle.index_reading.specs.declared.errors.IndexError.TheVariants.{Memory, Read, Corrupt, Compressed, Version, NotYet}
+use Rattle.index_reading.specs.declared.errors.IndexError.TheVariants.{Memory, Read, Corrupt, Compressed, Version}
 use Rattle.index_reading.specs.Opened.{header_of, postings_in, postings_told, AreNumbers}
 use Rattle.index_reading.specs.Errors.{error_of_table}
 use Rattle.index_reading.specs.LookUp.{LooksUp, LooksUpTold, GivesPlaces, FetchesParts, FetchesNumbers, ReadsNumbers, blocks_length, numbers_length, places_length}
@@ -196,7 +196,6 @@ gives-error index file postings key places Corrupt h found given =
     absurd (given within.0 (omega (arith, within.1, long)) (numbers-proper index.documents numbers key h.entries places h.proper (sym found)))
 gives-error index file postings key places (Compressed place) h found given = absurd given
 gives-error index file postings key places (Version version) h found given = absurd given
-gives-error index file postings key places NotYet h found given = absurd given
 
 pub looks-refused : (index : OpenIndex) (contents : Option (List ℕ)) (key : Key) (places : Range ℕ) (e : IndexError) → FindsTold (λ r. r) (entries_told range index.dictionary contents) key (Ok (Some places))
     → IfSome contents (GivesPlaces index places.start places.end (Err e)) → LooksUpTold (postings_told index contents) key (Err e)

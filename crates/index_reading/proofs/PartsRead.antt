@@ -10,7 +10,7 @@ use Rattle.tantivy_bitpacker.proofs.Unpacking.{length-unpacked_from}
 use Rattle.index_file.specs.Header.{width_of, packed_length, numbers_in}
 use Rattle.index_reading.specs.declared.open.OpenIndex.{OpenIndex}
 use Rattle.index_reading.specs.declared.errors.IndexError.{IndexError}
-use Rattle.index_reading.specs.declared.errors.IndexError.TheVariants.{Memory, Read, Corrupt, Compressed, Version, NotYet}
+use Rattle.index_reading.specs.declared.errors.IndexError.TheVariants.{Memory, Read, Corrupt, Compressed, Version}
 use Rattle.index_reading.specs.Opened.{header_of, AreNumbers}
 use Rattle.index_reading.specs.Numbers.{GivesNumbers, GivesPart}
 use Rattle.index_reading.specs.Errors.{error_of_handle}
@@ -45,7 +45,6 @@ by_values documents numbers values start end (Err Read) is gives = absurd gives
 by_values documents numbers values start end (Err Corrupt) is gives = λ ordered within proper. gives (subst (AreNumbers documents) (sym is) proper)
 by_values documents numbers values start end (Err (Compressed place)) is gives = absurd gives
 by_values documents numbers values start end (Err (Version version)) is gives = absurd gives
-by_values documents numbers values start end (Err NotYet) is gives = absurd gives
 
 pub gives-places : (contents : Option (List ℕ)) (index : OpenIndex) (start end count w from to : ℕ) (part bytes : List ℕ) (result : Result (List ℕ) IndexError)
     → ArePlaces start end index.count index.documents → w ≡ width_of index.documents → count ≡ end - start

@@ -5,7 +5,7 @@ use Rattle.owned_bytes.specs.declared.outside.HandleError.TheVariants as handle
 use Rattle.sstable_index.specs.declared.errors.SstError.{SstError}
 use Rattle.sstable_index.specs.declared.errors.SstError.TheVariants as tables
 use Rattle.index_reading.specs.declared.errors.IndexError.{IndexError}
-use Rattle.index_reading.specs.declared.errors.IndexError.TheVariants.{Memory, Read, Corrupt, Compressed, Version, NotYet}
+use Rattle.index_reading.specs.declared.errors.IndexError.TheVariants.{Memory, Read, Corrupt, Compressed, Version}
 
 abbrev pub error_of_handle : HandleError → IndexError
 error_of_handle handle.Memory = Memory
@@ -18,7 +18,6 @@ error_of_table start tables.Read = Read
 error_of_table start tables.Corrupt = Corrupt
 error_of_table start (tables.Compressed place) = Compressed (min (place + start) (2 ^ 64 - 1))
 error_of_table start (tables.Version version) = Version version
-error_of_table start tables.NotYet = NotYet
 
 -- what a read of a file answers where it fails
 abbrev pub IsReadError : IndexError → Type 0

@@ -16,7 +16,7 @@ use Rattle.index_reading.specs.Opened.{header_of, postings_told}
 use Rattle.index_reading.specs.Numbers.{GivesPart}
 use Rattle.index_reading.specs.declared.open.OpenIndex.{OpenIndex}
 use Rattle.index_reading.specs.declared.errors.IndexError.{IndexError}
-use Rattle.index_reading.specs.declared.errors.IndexError.TheVariants.{Memory, Read, Corrupt, Compressed, Version, NotYet}
+use Rattle.index_reading.specs.declared.errors.IndexError.TheVariants.{Memory, Read, Corrupt, Compressed, Version}
 
 -- what a look-up of the key answers, where these are the keys with their numbers
 abbrev pub LooksUp : List (Key × List ℕ) → Key → Result (Option (List ℕ)) IndexError → Type 0
@@ -35,7 +35,6 @@ IsLookUpError Read = Unit {0}
 IsLookUpError Corrupt = Unit {0}
 IsLookUpError (Compressed place) = Unit {0}
 IsLookUpError (Version version) = ⊥
-IsLookUpError NotYet = ⊥
 
 -- a refusal of a compressed block names the place of one, where the contents are told
 abbrev pub NamesCompressed : Option (List ℕ) → IndexError → Type 0

@@ -11,10 +11,10 @@ use Rattle.sstable_format.specs.Version.{version_of, is_known}
 use Rattle.sstable_format.specs.Refused.{is_compressed_at}
 use Rattle.index_file.specs.Header.{header_at}
 use Rattle.index_file.specs.IndexFile.{table_of}
-use Rattle.index_file.specs.Opening.{CanBeOpened, IsDamaged, is_waiting_file}
+use Rattle.index_file.specs.Opening.{CanBeOpened, IsDamaged}
 use Rattle.index_reading.specs.declared.open.OpenIndex.{OpenIndex}
 use Rattle.index_reading.specs.declared.errors.IndexError.{IndexError}
-use Rattle.index_reading.specs.declared.errors.IndexError.TheVariants.{Memory, Read, Corrupt, Compressed, Version, NotYet}
+use Rattle.index_reading.specs.declared.errors.IndexError.TheVariants.{Memory, Read, Corrupt, Compressed, Version}
 use Rattle.index_reading.specs.Opened.{postings_in}
 
 -- the blocks of the file's table
@@ -46,7 +46,6 @@ Opens file (Err Read) = ⊤
 Opens file (Err Corrupt) = IsDamaged file
 Opens file (Err (Compressed place)) = IsCompressed file place
 Opens file (Err (Version version)) = HasOtherVersion file version
-Opens file (Err NotYet) = is_waiting_file file ≡ true
 
 -- the same, where the contents are told
 abbrev pub OpensTold : Option (List ℕ) → Result OpenIndex IndexError → Type 0

@@ -6,7 +6,7 @@ use Rattle.sstable_format.specs.Footer.{footer_len}
 use Rattle.sstable_format.specs.Version.{has_known_version, has_unknown_version}
 use Rattle.index_file.specs.Header.{Header, header_len, header_at, packed_length}
 use Rattle.index_reading.specs.declared.errors.IndexError.{IndexError}
-use Rattle.index_reading.specs.declared.errors.IndexError.TheVariants.{Memory, Read, Corrupt, Compressed, Version, NotYet}
+use Rattle.index_reading.specs.declared.errors.IndexError.TheVariants.{Memory, Read, Corrupt, Compressed, Version}
 use Rattle.index_reading.specs.Opening.{HasOtherVersion, index_part_in}
 
 -- the file ends with a version that is known
@@ -22,7 +22,6 @@ ReadsVersion (Err Read) file = ⊤
 ReadsVersion (Err Corrupt) file = ⊥
 ReadsVersion (Err (Compressed place)) file = ⊥
 ReadsVersion (Err (Version version)) file = HasOtherVersion file version
-ReadsVersion (Err NotYet) file = ⊥
 
 -- the file begins with these numbers of documents and of numbers
 pub record HasHead (documents count : ℕ) (file : List ℕ) : Type 0 where

@@ -23,9 +23,6 @@ pub enum IndexError {
     /// The file ends with this number, where 2 or 3 belongs.
     #[error("version {0} of the table format is not known")]
     Version(u32),
-    /// The file's table is of several blocks, or of version 2 with keys.
-    #[error("indexes of this kind can't be opened yet")]
-    NotYet,
 }
 
 impl From<AllocError> for IndexError {
@@ -63,6 +60,5 @@ pub(crate) fn error_of_table(error: SstError, start: usize) -> IndexError
         SstError::Corrupt => IndexError::Corrupt,
         SstError::Compressed(place) => IndexError::Compressed(place.saturating_add(start as u64)),
         SstError::Version(version) => IndexError::Version(version),
-        SstError::NotYet => IndexError::NotYet,
     }
 }

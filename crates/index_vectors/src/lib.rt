@@ -4,6 +4,8 @@
 #[cfg(test)]
 mod blocks;
 #[cfg(test)]
+mod loading;
+#[cfg(test)]
 mod order;
 #[cfg(test)]
 mod parts;

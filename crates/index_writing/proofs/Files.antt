@@ -16,7 +16,6 @@ use Rattle.sstable_values.specs.Codec.{range}
 use Rattle.sstable_format.specs.Index.{at_end}
 use Rattle.sstable_format.specs.Table.{sst_of}
 use Rattle.sstable_format.specs.Version.{version_of}
-use Rattle.sstable_format.specs.Refused.{is_waiting}
 use Rattle.documents.specs.declared.documents.Doc.{Doc}
 use Rattle.documents.specs.Documents.{AreValidDocuments}
 use Rattle.documents.specs.Postings.{Postings}
@@ -139,9 +138,9 @@ tells-by file table header entries postings read told made =
     ap (λ o. o >>= (λ (parts : Header × List ℕ). sst_of range parts.1 >>= (λ entries. postings_of parts.0 entries))) read ∙ ap (λ o. o >>= (λ entries. postings_of header entries)) told ∙ made
 
 pub is-index : (docs : List Doc) (table : List ℕ) → AreValidDocuments docs → length docs ≤ 2 ^ width_of (length docs) → length (numbers_of_all (gather docs).entries) < 2 ^ 64
-    → sst_of range table ≡ Some (ranged 0 (gather docs).entries) → version_of table ≡ Some 3 → is_waiting table ≡ false
+    → sst_of range table ≡ Some (ranged 0 (gather docs).entries) → version_of table ≡ Some 3
     → IsReadyIndex docs ((header_bytes (length docs) (length (numbers_of_all (gather docs).entries)) ++ packed (width_of (length docs)) (numbers_of_all (gather docs).entries)) ++ table)
-is-index docs table valid few small told version ready =
+is-index docs table valid few small told version =
     let n = length docs in
     let ps = (gather docs).entries in
     let numbers = numbers_of_all ps in
@@ -162,7 +161,6 @@ is-index docs table valid few small told version ready =
     record {
       index = record { valid = valid; table = tells };
       version = version-again front table 3 version;
-      ready = ap (λ o. is_some (o >>= (λ (parts : Header × List ℕ). provided (is_waiting parts.1)))) read ∙ ap (λ b. is_some (provided b)) ready;
     }
 
 pub made-index : {E : Type 0} (r : Result (List ℕ) E) (docs : List Doc) (counted first last : List (Key × List ℕ)) (s0 s1 s2 : List ℕ) (documents count width : ℕ)
@@ -179,4 +177,4 @@ made-index (Ok new) docs counted first last s0 s1 s2 documents count width valid
     ∙ ap (λ ps. header_bytes (length docs) (length (numbers_of_all (gather docs).entries)) ++ packed (width_of (length docs)) (numbers_of_all ps)) b in
     subst (IsReadyIndex docs) (sym (gains.appended ∙ ap (λ s. s ++ gains.table) body))
     (is-index docs gains.table valid (subst (λ n. n ≤ 2 ^ width_of (length docs)) g (subst (λ w. documents ≤ 2 ^ w) wide few)) small
-    (gains.told ∙ ap (λ ps. Some (ranged 0 ps)) c) gains.version gains.ready)
+    (gains.told ∙ ap (λ ps. Some (ranged 0 ps)) c) gains.version)

@@ -12,9 +12,9 @@ use Rattle.owned_bytes.specs.Outside.{HasCause}
 use Rattle.owned_bytes.proofs.InTurn.{never_fails}
 use Rattle.sstable_values.specs.Codec.{range}
 use Rattle.sstable_values.specs.Range.{ends_at}
-use Rattle.sstable_blocks.specs.Run.{Block, last_key}
+use Rattle.sstable_blocks.specs.Run.{last_key}
 use Rattle.sstable_tables.specs.Laws.{HasGathered, keys_size, values_in}
-use Rattle.sstable_tables.specs.Making.{Making, IsTaken, Adds, Refuses, IsTooLong, StopsTable, AppendsTable, IsTable, bytes_of, content_of, ending, if_any, may_come}
+use Rattle.sstable_tables.specs.Making.{Making, IsTaken, Adds, Refuses, IsTooLong, StopsTable, AppendsTable, IsTable, bytes_of, ending, may_come}
 use Rattle.sstable_tables.proofs.Gathered.{gathered-more}
 use Rattle.sstable_index.specs.declared.write_errors.SstWriteError.{SstWriteError}
 use Rattle.sstable_index.specs.declared.write_errors.SstWriteError.TheVariants.{Memory, Write, Unsorted, ValueRefused, BlockTooLong, Spent}
@@ -128,14 +128,6 @@ pub not-long : {W : Type 0} (w : Making W (Range ℕ)) (sink : W) (entries : Lis
     → keys_size entries + 31 * length entries + 21 < 2 ^ 32 → IsTooLong range w → ⊥
 not-long w sink entries has small long = short-fit w sink entries has small long
 
-abbrev block_with : {V : Type 0} → List ℕ → List (Key × V) → Block V
-block_with content entries = record { content = content; entries = entries }
-
--- of the open block there is at most one
-one-block : {V : Type 0} (entries : List (Key × V)) (content : List ℕ) → length (if_any entries (block_with content entries)) ≤ 1
-one-block [] content = omega arith
-one-block (entry ∷ entries) content = omega arith
-
 of_some : {A : Type 0} (P : A → Type 0) (o : Option A) (x : A) → o ≡ Some x → IfSome o P → P x
 of_some P o x some p = subst (λ q. IfSome q P) some p
 
@@ -148,6 +140,5 @@ gains-table (Ok new) w old entries has a =
       appended = a.appended ∙ ap (λ bytes. bytes ++ ending range w) has.same_sink;
       told = is.told ∙ ap Some has.gathered;
       version = is.version;
-      ready = is.ready (one-block w.gathered (content_of range w));
     }
 gains-table (Err e) w old entries has gives = tt

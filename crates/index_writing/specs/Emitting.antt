@@ -7,11 +7,9 @@ use Rattle.owned_bytes.specs.Keys.{Key}
 use Rattle.tantivy_bitpacker.specs.Packed.{Bits, HasPacked, at_width}
 use Rattle.sstable_values.specs.Codec.{range}
 use Rattle.sstable_format.specs.Version.{version_of}
-use Rattle.sstable_format.specs.Refused.{is_waiting}
 use Rattle.sstable_format.specs.Table.{sst_of}
 use Rattle.documents.specs.declared.documents.Doc.{Doc}
 use Rattle.index_file.specs.IndexFile.{IsIndexOf}
-use Rattle.index_file.specs.Opening.{is_waiting_file}
 
 -- the numbers of all keys, one list after the other
 abbrev pub numbers_of_all : List (Key × List ℕ) → List ℕ
@@ -37,10 +35,8 @@ pub record GainsTable (entries : List (Key × Range ℕ)) (old new : List ℕ) :
   pub appended : new ≡ old ++ table
   pub told : sst_of range table ≡ Some entries
   pub version : version_of table ≡ Some 3
-  pub ready : is_waiting table ≡ false
 
--- the file is an index of the documents, of version 3, that can be opened
+-- the file is an index of the documents, of version 3
 pub record IsReadyIndex (docs : List Doc) (file : List ℕ) : Type 0 where
   pub index : IsIndexOf file docs
   pub version : version_of file ≡ Some 3
-  pub ready : is_waiting_file file ≡ false

@@ -8,7 +8,6 @@ use Rattle.documents.specs.declared.faults.Fault.TheVariants as faults
 use Rattle.documents.specs.declared.faults.PlacedFault.{PlacedFault}
 use Rattle.documents.specs.Documents.{AreValidDocuments, documents_size, first_fault}
 use Rattle.index_file.specs.IndexFile.{IsIndexOf}
-use Rattle.index_file.specs.Opening.{is_waiting_file}
 use Rattle.index_writing.specs.declared.errors.WriteError.{WriteError}
 use Rattle.index_writing.specs.declared.errors.WriteError.TheVariants.{Memory, Write, TooManyDocuments, BadField, KeyTooLong, ArenaFull}
 
@@ -24,12 +23,11 @@ size_limit pages = page_size * pages
 abbrev pub FitPages : List Doc → ℕ → Type 0
 FitPages docs pages = documents_size docs ≤ size_limit pages
 
--- The file is what is written for these documents: an index of them, of version 3, that can be opened.
+-- The file is what is written for these documents: an index of them, of version 3.
 pub record IsWrittenFor (docs : List Doc) (pages : ℕ) (file : List ℕ) : Type 0 where
   pub fit : FitPages docs pages
   pub index : IsIndexOf file docs
   pub version : version_of file ≡ Some 3
-  pub ready : is_waiting_file file ≡ false
 
 -- such a file was appended
 pub record AppendsIndex (docs : List Doc) (pages : ℕ) (old new : Option (List ℕ)) : Type 0 where

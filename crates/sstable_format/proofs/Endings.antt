@@ -12,7 +12,6 @@ use Rattle.sstable_format.specs.Index.{at_end}
 use Rattle.sstable_format.specs.Table.{parts_of}
 use Rattle.sstable_format.specs.Ending.{HasFooter, IsEnding}
 use Rattle.sstable_format.specs.Version.{version_of, is_known, has_known_version, has_unknown_version}
-use Rattle.sstable_format.specs.Refused.{is_waiting}
 use Rattle.sstable_format.proofs.Ends.{at_end-found, at_end-none, number_at_end, footer_in, footer_at-whole, bytes_at-front, bytes_at-none}
 
 pub last_four : (table ending : List ℕ) → IsEnding table ending → drop (length ending - 4) ending ≡ drop (length table - 4) table
@@ -51,64 +50,10 @@ parts_of-found table body footer ended fits =
     ap (λ o. o >>= (λ (ended : Footer × List ℕ). bytes_at ended.0.index_offset ended.1 >>= (λ parts. Some (record { front = parts.0; index_part = parts.1; count = ended.0.num_terms; version = ended.0.version })))) ended
     ∙ ap (λ o. o >>= (λ (parts : List ℕ × List ℕ). Some (record { front = parts.0; index_part = parts.1; count = footer.num_terms; version = footer.version }))) (bytes_at-front footer.index_offset body fits)
 
--- the last test of waiting
-abbrev waits : Footer → ℕ × List ℕ → Option (Unit {0})
-waits footer stored = provided (footer.version == 2 || ((footer.version == 3) && nat_le footer.index_offset (length stored.1) && not (stored.0 == 0)))
-
-is_waiting-by : (table body : List ℕ) (footer : Footer) → at_end 20 footer_at table ≡ Some (footer, body) → is_waiting table ≡ is_some (at_end 8 (number_at w64) body >>= waits footer)
-is_waiting-by table body footer ended = ap (λ o. is_some (o >>= (λ (ended : Footer × List ℕ). at_end 8 (number_at w64) ended.1 >>= waits ended.0))) ended
-
 pub footer-found : (table : List ℕ) → 20 ≤ length table → at_end 20 footer_at table ≡ Some (footer_in (drop (length table - 20) table), take (length table - 20) table)
 footer-found table fits =
     at_end-found 20 footer_at table [] (footer_in (drop (length table - 20) table)) fits
     (footer_at-whole (drop (length table - 20) table) (omega (arith, fits, length-drop (length table - 20) table)))
-
-pub is_waiting-short : (table : List ℕ) → length table < 28 → is_waiting table ≡ false
-is_waiting-short table short =
-    elim (leb 20 (length table)) as (λ t. leb 20 (length table) ≡ t → is_waiting table ≡ false) [
-      | true ↦ λ e. let fits : 20 ≤ length table = leb-true _ _ e in
-          is_waiting-by table (take (length table - 20) table) (footer_in (drop (length table - 20) table)) (footer-found table fits)
-          ∙ ap (λ o. is_some (o >>= waits (footer_in (drop (length table - 20) table)))) (at_end-none 8 (number_at w64) (take (length table - 20) table) (omega (arith, length-take (length table - 20) table)))
-      | false ↦ λ e. let less : length table < 20 = leb-false _ _ e in
-          ap (λ o. is_some (o >>= (λ (ended : Footer × List ℕ). at_end 8 (number_at w64) ended.1 >>= waits ended.0))) (at_end-none 20 footer_at table less)
-    ] refl
-
-pub is_waiting-v2 : (table : List ℕ) (footer : Footer) → at_end 20 footer_at table ≡ Some (footer, take (length table - 20) table) → 28 ≤ length table → footer.version ≡ 2 → is_waiting table ≡ true
-is_waiting-v2 table footer ended fits two =
-    is_waiting-by table (take (length table - 20) table) footer ended
-    ∙ ap (λ o. is_some (o >>= waits footer)) (number_at_end w64 (take (length table - 20) table) (omega (arith, fits, length-take (length table - 20) table)))
-    ∙ ap (λ t. is_some (provided (t || ((footer.version == 3) && nat_le footer.index_offset (length (take (length (take (length table - 20) table) - 8) (take (length table - 20) table))) && not (from_le_bytes w64 (drop (length (take (length table - 20) table) - 8) (take (length table - 20) table)) == 0))))) (eq-eqb _ _ two)
-
--- a table of version 3 waits by its index offset and the number before its footer
-waits-v3 : (footer : Footer) (stored : ℕ × List ℕ) → footer.version ≡ 3 → waits footer stored ≡ provided (nat_le footer.index_offset (length stored.1) && not (stored.0 == 0))
-waits-v3 footer stored three = ap (λ v. provided (v == 2 || ((v == 3) && nat_le footer.index_offset (length stored.1) && not (stored.0 == 0)))) three
-
-is_waiting-v3_by : (table body : List ℕ) (footer : Footer) → at_end 20 footer_at table ≡ Some (footer, body) → footer.version ≡ 3 → 8 ≤ length body
-    → is_waiting table ≡ is_some (provided (nat_le footer.index_offset (length (take (length body - 8) body)) && not (from_le_bytes w64 (drop (length body - 8) body) == 0)))
-is_waiting-v3_by table body footer ended three fits =
-    is_waiting-by table body footer ended ∙ ap (λ o. is_some (o >>= waits footer)) (number_at_end w64 body fits)
-    ∙ ap is_some (waits-v3 footer (from_le_bytes w64 (drop (length body - 8) body), take (length body - 8) body) three)
-
--- a table of version 3 whose index part has fewer than eight bytes
-pub is_waiting-near : (table body : List ℕ) (footer : Footer) → at_end 20 footer_at table ≡ Some (footer, body) → footer.version ≡ 3 → length body < footer.index_offset + 8 → is_waiting table ≡ false
-is_waiting-near table body footer ended three near =
-    elim (leb 8 (length body)) as (λ t. leb 8 (length body) ≡ t → is_waiting table ≡ false) [
-      | true ↦ λ e. let fits : 8 ≤ length body = leb-true _ _ e in
-          is_waiting-v3_by table body footer ended three fits
-          ∙ ap (λ t. is_some (provided (t && not (from_le_bytes w64 (drop (length body - 8) body) == 0)))) (lt-leb footer.index_offset (length (take (length body - 8) body)) (omega (arith, near, fits, length-take (length body - 8) body)))
-      | false ↦ λ e. is_waiting-by table body footer ended ∙ ap (λ o. is_some (o >>= waits footer)) (at_end-none 8 (number_at w64) body (leb-false _ _ e))
-    ] refl
-
--- a table of version 3 whose index part ends with this number
-pub is_waiting-v3 : (table body part : List ℕ) (footer : Footer) → at_end 20 footer_at table ≡ Some (footer, body) → footer.version ≡ 3 → footer.index_offset ≤ length body → part ≡ drop footer.index_offset body → 8 ≤ length part
-    → is_waiting table ≡ is_some (provided (not (from_le_bytes w64 (drop (length part - 8) part) == 0)))
-is_waiting-v3 table body part footer ended three fits is room =
-    let len : length part ≡ length body - footer.index_offset = ap length is ∙ length-drop footer.index_offset body in
-    let same : drop (length part - 8) part ≡ drop (length body - 8) body =
-    ap (drop (length part - 8)) is ∙ drop-drop (length part - 8) footer.index_offset body ∙ ap (λ n. drop n body) (omega (arith, len, fits, room)) in
-    is_waiting-v3_by table body footer ended three (omega (arith, len, room))
-    ∙ ap (λ t. is_some (provided (t && not (from_le_bytes w64 (drop (length body - 8) body) == 0)))) (le-leb footer.index_offset (length (take (length body - 8) body)) (omega (arith, len, fits, room, length-take (length body - 8) body)))
-    ∙ ap (λ (l : List ℕ). is_some (provided (not (from_le_bytes w64 l == 0)))) (sym same)
 
 -- the version of a table is told by its last bytes alone
 pub version-told : (table ending : List ℕ) (v : ℕ) → IsEnding table ending → version_of ending ≡ Some v → (version_of table ≡ Some v) × (v ≡ from_le_bytes w32 (drop (length ending - 4) ending))
@@ -154,28 +99,17 @@ ended-by table ending e fits =
     let same : drop (length table - 20) table ≡ ending = ap (λ n. drop (length table - n) table) (sym long) ∙ e.last in
     footer-found table fits ∙ ap (λ (l : List ℕ). Some (footer_in l, take (length table - 20) table)) same
 
-pub waits-by : (table ending : List ℕ) (v : ℕ) → IsEnding table ending → v ≡ from_le_bytes w32 (drop (length ending - 4) ending) → v ≡ 2 → 28 ≤ length table → is_waiting table ≡ true
-waits-by table ending v e is two fits =
-    is_waiting-v2 table (footer_in ending) (ended-by table ending e (omega (arith, fits))) fits (footer-version ending (omega (arith, e.len, fits)) ∙ sym is ∙ two)
-
 -- an index offset past the footer
-pub far-by : (table ending : List ℕ) (v : ℕ) → IsEnding table ending → v ≡ from_le_bytes w32 (drop (length ending - 4) ending) → 20 ≤ length table
-    → ((v ≡ 2 → ⊥) × (v ≡ 3)) ⊎ (v ≡ 2) → (v ≡ 2 → length table < 28) → length table < (footer_in ending).index_offset + 20
-    → (is_waiting table ≡ false) × (parts_of table ≡ None)
-far-by table ending v e is fits known early far =
-    let ended = ended-by table ending e fits in
-    let version : (footer_in ending).version ≡ v = footer-version ending (omega (arith, e.len, fits)) ∙ sym is in
-    let less : length (take (length table - 20) table) < (footer_in ending).index_offset = omega (arith, far, fits, length-take (length table - 20) table) in (
-      ⊎_elim (λ three. is_waiting-near table (take (length table - 20) table) (footer_in ending) ended (version ∙ three.1) (omega (arith, less)))
-          (λ two. is_waiting-short table (early two)) known,
-      parts_of-far table (take (length table - 20) table) (footer_in ending) ended less,
-    )
+pub far-by : (table ending : List ℕ) → IsEnding table ending → 20 ≤ length table → length table < (footer_in ending).index_offset + 20 → parts_of table ≡ None
+far-by table ending e fits far =
+    parts_of-far table (take (length table - 20) table) (footer_in ending) (ended-by table ending e fits)
+    (omega (arith, far, fits, length-take (length table - 20) table))
 
 pub footer-by : (table ending : List ℕ) (footer : Footer) (v : ℕ) → IsEnding table ending → v ≡ from_le_bytes w32 (drop (length ending - 4) ending) → 20 ≤ length table
-    → ((v ≡ 2 → ⊥) × (v ≡ 3)) ⊎ (v ≡ 2) → (v ≡ 2 → length table < 28)
+    → is_known v ≡ true
     → footer.index_offset ≡ (footer_in ending).index_offset → footer.num_terms ≡ (footer_in ending).num_terms → footer.version ≡ (footer_in ending).version
     → footer.index_offset + 20 ≤ length table → HasFooter table footer
-footer-by table ending footer v e is fits known early offset count version near =
+footer-by table ending footer v e is fits known offset count version near =
     let same : footer.version ≡ v = version ∙ footer-version ending (omega (arith, e.len, fits)) ∙ sym is in
     let told : version_of table ≡ Some v = version_of-ending table ending e ∙ ap Some (sym is) in
     record {
@@ -184,7 +118,6 @@ footer-by table ending footer v e is fits known early offset count version near 
           ∙ ap (λ n. Some (record { index_offset = footer.index_offset; num_terms = n; version = (footer_in ending).version }, take (length table - 20) table)) (sym count)
           ∙ ap (λ n. Some (record { index_offset = footer.index_offset; num_terms = footer.num_terms; version = n }, take (length table - 20) table)) (sym version);
       told = told ∙ ap Some (sym same);
-      known = ap is_known same ∙ known-is v known;
+      known = ap is_known same ∙ known;
       fits = near;
-      early = λ two. early (sym same ∙ two);
     }

@@ -33,7 +33,7 @@ keys_of-keeping before (delta ∷ deltas) found e =
     ap (λ t. provided (t || eqb delta.keep (shared before (key_after before delta))) >>= (λ _. keys_after (key_after before delta) deltas >>= (λ others. Some (key_after before delta ∷ others)))) (ap (λ n. eqb n 0) zero)
     ∙ ap (λ k. keys_after k deltas >>= (λ others. Some (k ∷ others))) (sym none) ∙ first.2
 
-block_of-keeping : {V : Type 0} (codec : Codec V) (before : Key) (content : List ℕ) (entries : List (Key × V)) → block_of (keeping_nothing codec) [] content ≡ Some entries → block_of codec before content ≡ Some entries
+pub block_of-keeping : {V : Type 0} (codec : Codec V) (before : Key) (content : List ℕ) (entries : List (Key × V)) → block_of (keeping_nothing codec) [] content ≡ Some entries → block_of codec before content ≡ Some entries
 unfolding block_of
 block_of-keeping codec before content entries e =
     let values = bind_some (codec.values_of content) (λ values. pieces front_of_deltas values.1 >>= (λ deltas. keys_of [] deltas.0 >>= (λ ks. paired ks values.0))) entries e in

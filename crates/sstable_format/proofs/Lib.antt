@@ -4,3 +4,8 @@ pub mod IndexParts
 pub mod Parts
 pub mod RisingRuns
 pub mod Keeping
+pub mod BlocksAlone
+pub mod Locating
+pub mod Under
+pub mod Compressed
+pub mod Holding

@@ -1,16 +1,14 @@
 -- What a footer tells of the parts of a table.
-use Rattle.std.proofs.Common.{◌≡◌, ℕ, ◌-◌, ◌<◌, ◌≤◌, List, [], length, take, drop, Option, Some, None, Bool, true, false, refl, ap, ◌∙◌, arith, length-drop, length-take, ltb}
-use Rattle.std.proofs.lemmas.Bool.{ltb-true, ltb-false}
-use Rattle.std.specs.Prelude.{option_map, ◌==◌, ◌&&◌}
-use Rattle.owned_bytes.specs.Front.{◌>>=◌, provided}
+use Rattle.std.proofs.Common.{◌≡◌, ℕ, ◌-◌, ◌≤◌, List, length, take, drop, Option, Some, None, refl, ap, ◌∙◌, arith, length-take}
+use Rattle.std.specs.Prelude.{option_map}
+use Rattle.owned_bytes.specs.Front.{◌>>=◌}
 use Rattle.sstable_values.specs.Codec.{Codec}
 use Rattle.sstable_blocks.specs.Run.{entries_of}
 use Rattle.sstable_format.specs.declared.footer.Footer.{Footer}
 use Rattle.sstable_format.specs.Ending.{HasFooter}
 use Rattle.sstable_format.specs.Index.{Index, index_of_version}
-use Rattle.sstable_format.specs.Table.{Parts, Sst, parts_of, blocks_of, blocks_under, entries_under, whole_sst_of, sst_of, table_blocks, indexes}
+use Rattle.sstable_format.specs.Table.{Parts, Sst, parts_of, blocks_under, entries_under, whole_sst_of, sst_of, table_blocks}
 use Rattle.sstable_format.proofs.Endings.{parts_of-found}
-use Rattle.sstable_format.proofs.IndexParts.{blocks_of-short, index_v2-short, index_v3-short, index-v2, index-v3}
 
 -- a table without parts is none
 pub sst_of-parts_none : {V : Type 0} (codec : Codec V) (table : List ℕ) → parts_of table ≡ None → sst_of codec table ≡ None
@@ -48,37 +46,22 @@ sst_of-by_index codec table parts found are is =
     Some (record { blocks = blocks; index_part = parts.index_part; version = parts.version })))) >>= (λ (sst : Sst _). Some (entries_of sst.blocks))) ≡ (o >>= (λ index. entries_under codec index parts.count parts.front)))
     [ None ↦ refl | Some index ↦ entries-of_sst codec parts index ]
 
-pub by_index-no_blocks : {V : Type 0} (codec : Codec V) (parts : Parts) (found : Option Index) → blocks_of codec parts.front ≡ None → by_index codec parts found ≡ None
-unfolding by_index blocks_under
-by_index-no_blocks codec parts None none = refl
-by_index-no_blocks codec parts (Some index) none = ap (λ o. (o >>= (λ blocks. provided (parts.count == length (entries_of blocks) && indexes index blocks) >>= (λ _. Some blocks))) >>= (λ blocks. Some (entries_of blocks))) none
-
 -- the parts that a footer tells
 abbrev pub parts_by : List ℕ → Footer → Parts
 parts_by table footer = record { front = take footer.index_offset (body_of table); index_part = drop footer.index_offset (body_of table); count = footer.num_terms; version = footer.version }
 
-pub none-v2 : {V : Type 0} (codec : Codec V) (table : List ℕ) (footer : Footer) → HasFooter table footer → footer.version ≡ 2 → (drop footer.index_offset (body_of table) ≡ [] → ⊥) → sst_of codec table ≡ None
+-- a table without an index, or whose index is that of no blocks, is none
+pub no-sst : {V : Type 0} (codec : Codec V) (table : List ℕ) (footer : Footer) → HasFooter table footer
+    → ((index : Index) → index_of_version footer.version (drop footer.index_offset (body_of table)) ≡ Some index → blocks_under codec index footer.num_terms (take footer.index_offset (body_of table)) ≡ None)
+    → sst_of codec table ≡ None
 unfolding by_index
-none-v2 codec table footer h two some =
-    let early : length table < 28 = h.early two in
-    let by : (t : Bool) → ltb footer.index_offset 4 ≡ t → sst_of codec table ≡ None =
-    λ t. elim t as (λ t. ltb footer.index_offset 4 ≡ t → sst_of codec table ≡ None) [
-      | true ↦ λ e. let less : footer.index_offset < 4 = ltb-true _ _ e in
-          sst_of-by_index codec table (parts_by table footer) (index_of_version footer.version (drop footer.index_offset (body_of table))) (parts-of table footer h) refl
-          ∙ by_index-no_blocks codec (parts_by table footer) (index_of_version footer.version (drop footer.index_offset (body_of table)))
-          (blocks_of-short codec (take footer.index_offset (body_of table)) (omega (arith, less, length-take footer.index_offset (body_of table))))
-      | false ↦ λ e. let more : 4 ≤ footer.index_offset = ltb-false _ _ e in
-          sst_of-by_index codec table (parts_by table footer) None (parts-of table footer h)
-          (index-v2 footer.version (drop footer.index_offset (body_of table)) two
-          ∙ index_v2-short (drop footer.index_offset (body_of table)) (omega (arith, more, early, length-drop footer.index_offset (body_of table), length-take (length table - 20) table)) some)
-    ] in
-    by (ltb footer.index_offset 4) refl
-
-pub none-v3 : {V : Type 0} (codec : Codec V) (table : List ℕ) (footer : Footer) → HasFooter table footer → footer.version ≡ 3 → length (drop footer.index_offset (body_of table)) < 8 → sst_of codec table ≡ None
-unfolding by_index
-none-v3 codec table footer h three short =
-    sst_of-by_index codec table (parts_by table footer) None (parts-of table footer h)
-    (index-v3 footer.version (drop footer.index_offset (body_of table)) three ∙ index_v3-short (drop footer.index_offset (body_of table)) short)
+no-sst codec table footer h none = by (index_of_version footer.version (drop footer.index_offset (body_of table))) refl
+  where
+    by : (found : Option Index) → index_of_version footer.version (drop footer.index_offset (body_of table)) ≡ found → sst_of codec table ≡ None
+    by None is = sst_of-by_index codec table (parts_by table footer) None (parts-of table footer h) is
+    by (Some index) is =
+        sst_of-by_index codec table (parts_by table footer) (Some index) (parts-of table footer h) is
+        ∙ ap (λ o. o >>= (λ blocks. Some (entries_of blocks))) (none index is)
 
 pub found-is : {V : Type 0} (codec : Codec V) (table : List ℕ) (footer : Footer) (index : Index) → HasFooter table footer → index_of_version footer.version (drop footer.index_offset (body_of table)) ≡ Some index
     → sst_of codec table ≡ entries_under codec index footer.num_terms (take footer.index_offset (body_of table))

@@ -17,4 +17,3 @@ pub record HasFooter (table : List ℕ) (footer : Footer) : Type 0 where
   pub told : version_of table ≡ Some footer.version
   pub known : is_known footer.version ≡ true
   pub fits : footer.index_offset + footer_len ≤ length table
-  pub early : footer.version ≡ 2 → length table < footer_len + 8

@@ -23,7 +23,7 @@ area_of keys = flat_map (λ key. key) keys
 
 -- ---- the fields of some entries show them
 
-keys_at-again : (place : ℕ) (keys : List Key) → keys_at (places_from place keys) (area_of keys) ≡ keys
+pub keys_at-again : (place : ℕ) (keys : List Key) → keys_at (places_from place keys) (area_of keys) ≡ keys
 unfolding keys_at places_from
 keys_at-again place [] = refl
 keys_at-again place (key ∷ []) = ap (λ k. k ∷ []) (append-nil key)

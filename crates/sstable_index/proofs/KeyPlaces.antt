@@ -40,7 +40,7 @@ end-within [] (suc i) = omega arith
 end-within (key ∷ keys) zero = omega arith
 end-within (key ∷ keys) (suc i) = omega (arith, end-within keys i, length-append key (area_of (take i keys)), length-append key (area_of keys))
 
-left-at : (keys : List Key) (i : ℕ) → drop (length (area_of (take i keys))) (area_of keys) ≡ area_of (drop i keys)
+pub left-at : (keys : List Key) (i : ℕ) → drop (length (area_of (take i keys))) (area_of keys) ≡ area_of (drop i keys)
 left-at [] zero = refl
 left-at [] (suc i) = refl
 left-at (key ∷ keys) zero = refl

@@ -1,5 +1,5 @@
 -- The errors of blocks, values and files, by the names of this crate.
-use Rattle.std.specs.Prelude.{◌≡◌, Result, Err}
+use Rattle.std.specs.Prelude.{◌≡◌, ℕ, ◌+◌, ◌-◌, ◌^◌, min, Result, Err}
 use Rattle.owned_bytes.specs.declared.outside.HandleError.{HandleError}
 use Rattle.owned_bytes.specs.declared.outside.HandleError.TheVariants as handle
 use Rattle.sstable_values.specs.declared.errors.BlockError.{BlockError}
@@ -10,6 +10,9 @@ use Rattle.sstable_blocks.specs.declared.errors.DeltaError.{DeltaError}
 use Rattle.sstable_blocks.specs.declared.errors.DeltaError.TheVariants as deltas
 use Rattle.sstable_index.specs.declared.errors.SstError.{SstError}
 use Rattle.sstable_index.specs.declared.errors.SstError.TheVariants as errors
+use Rattle.sstable_index.specs.declared.load_errors.SSTableDataCorruption.{SSTableDataCorruption}
+use Rattle.sstable_index.specs.declared.load_errors.LoadError.{LoadError}
+use Rattle.sstable_index.specs.declared.load_errors.LoadError.TheVariants as loading
 use Rattle.sstable_index.specs.declared.write_errors.SstWriteError.{SstWriteError}
 use Rattle.sstable_index.specs.declared.write_errors.SstWriteError.TheVariants as writing
 
@@ -34,3 +37,17 @@ abbrev pub error_of_delta : DeltaError → SstWriteError
 error_of_delta deltas.Memory = writing.Memory
 error_of_delta deltas.Write = writing.Write
 error_of_delta deltas.BlockTooLong = writing.BlockTooLong
+
+abbrev pub damage : SSTableDataCorruption
+damage = record {}
+
+abbrev pub load_error_of_block : BlockError → LoadError
+load_error_of_block blocks.Memory = loading.Memory
+load_error_of_block blocks.Corrupt = loading.Corrupt damage
+load_error_of_block (blocks.Compressed place) = loading.Compressed place
+
+-- the error in a table whose index part begins at the place
+abbrev pub error_in_table : ℕ → LoadError → SstError
+error_in_table start loading.Memory = errors.Memory
+error_in_table start (loading.Corrupt _) = errors.Corrupt
+error_in_table start (loading.Compressed place) = errors.Compressed (min (start + place) (2 ^ 64 - 1))

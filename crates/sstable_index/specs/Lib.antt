@@ -1,6 +1,11 @@
 pub mod Shown
 pub mod Errors
+pub mod Usable
+pub mod Located
 pub mod Reading
+pub mod ReadingV2
+pub mod Laws
+pub mod Loaded
 pub mod Building
 pub mod Built
 pub mod BuildingV2

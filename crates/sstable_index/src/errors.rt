@@ -20,9 +20,6 @@ pub enum SstError {
     /// The table ends with this number, where 2 or 3 belongs.
     #[error("version {0} of the table format is not known")]
     Version(u32),
-    /// Tables of several blocks, and tables of version 2 with keys.
-    #[error("tables of this kind can't be opened yet")]
-    NotYet,
 }
 
 impl From<AllocError> for SstError {

@@ -24,10 +24,9 @@ use Rattle.sstable_format.specs.Index.{IndexEntry, Index, index_of_version, is_z
 use Rattle.sstable_format.specs.Table.{keeping_nothing, blocks_of, blocks_under, sst_of, table_blocks, indexes}
 unfoldable use Rattle.sstable_format.specs.Table.{places_from, points_to}
 use Rattle.sstable_format.specs.Version.{version_of}
-use Rattle.sstable_format.specs.Refused.{is_waiting}
 use Rattle.sstable_format.specs.Ending.{IsEnding, HasFooter}
 use Rattle.sstable_format.specs.declared.footer.Footer as code
-use Rattle.sstable_format.proofs.Endings.{footer-by, is_waiting-v3}
+use Rattle.sstable_format.proofs.Endings.{footer-by}
 use Rattle.sstable_format.proofs.Parts.{body_of, found-is, blocks-is}
 use Rattle.sstable_index.specs.Building.{index_part, index_of, are_rising, Serializes}
 use Rattle.sstable_index.specs.declared.write_errors.Unfinished.{Unfinished}
@@ -112,7 +111,7 @@ ending-whole bs part count = record {
 has-footer : (bs part : List ℕ) (count : ℕ) → length bs + 4 < 2 ^ 64 → count < 2 ^ 64 → HasFooter (whole bs part count) (told_footer bs count)
 has-footer bs part count short few =
     footer-by (whole bs part count) (footer (length bs + 4) count) (told_footer bs count) 3 (ending-whole bs part count) refl (omega (arith, length-whole bs part count))
-    (inl (λ e. absurd (omega (arith, e)), refl)) (λ e. absurd (omega (arith, e)))
+    refl
     (sym (from_le_bytes-to_le_bytes_8 (length bs + 4) short)) (sym (from_le_bytes-to_le_bytes_8 count few)) refl
     (omega (arith, length-whole bs part count))
 
@@ -152,26 +151,11 @@ indexes-told [] blocks points = le-leb (length blocks) 1 (let many = as_many [] 
 indexes-told (entry ∷ []) blocks points = le-leb (length blocks) 1 (let many = as_many (entry ∷ []) blocks _ points in omega (arith, many))
 indexes-told (entry ∷ next ∷ entries) blocks points = points
 
-abbrev eight : List ℕ
-eight = 0 ∷ 0 ∷ 0 ∷ 0 ∷ 0 ∷ 0 ∷ 0 ∷ 0 ∷ []
-
-one-part : (index : List IndexEntry) → length index ≤ 1 → index_part index ≡ eight
-one-part [] few = refl
-one-part (entry ∷ []) few = refl
-one-part (entry ∷ next ∷ entries) few = absurd (omega (arith, few))
-
-ready-whole : (bs : List ℕ) (count : ℕ) → length bs + 4 < 2 ^ 64 → count < 2 ^ 64 → is_waiting (whole bs eight count) ≡ false
-ready-whole bs count short few =
-    let h = has-footer bs eight count short few in
-    is_waiting-v3 (whole bs eight count) (body_of (whole bs eight count)) eight (told_footer bs count) h.read refl
-    (omega (arith, ap length (body-whole bs eight count), length-before bs eight)) (part-of_body bs eight count) (omega arith)
-
 -- A table of these blocks.
 record Tells {V : Type 0} (codec : Codec V) (blocks : List (Block V)) (table : List ℕ) : Type 0 where
   told : sst_of codec table ≡ Some (entries_of blocks)
   in_blocks : table_blocks codec table ≡ Some blocks
   version : version_of table ≡ Some 3
-  ready : length blocks ≤ 1 → is_waiting table ≡ false
 
 tells-whole : {W V : Type 0} (codec : Codec V) (last : Making W V) (blocks : List (Block V)) → AreBlocks codec last blocks → last.gathered ≡ [] → last.counted + 4 < 2 ^ 64 → last.count < 2 ^ 64
     → index_of_version 3 (index_part last.index) ≡ Some (index_of last.index) → Tells codec blocks (bytes_of blocks ++ table_end last.index (last.counted + 4) last.count)
@@ -181,12 +165,10 @@ tells-whole {W} {V} codec last blocks are none small few told =
     let short : length bs + 4 < 2 ^ 64 = omega (arith, are.size, small) in
     let count : last.count ≡ length (entries_of blocks) = omega (arith, are.count, ap length none) in
     let facts = told-whole codec bs part (index_of last.index) blocks last.count short few told (blocks-then_zeros codec bs blocks are.run) count (indexes-told last.index blocks are.points) in
-    let many = as_many last.index blocks _ are.points in
     let it : Tells codec blocks (whole bs part last.count) = record {
       told = facts.1;
       in_blocks = facts.0;
       version = (has-footer bs part last.count short few).told;
-      ready = λ one. ap (λ p. is_waiting (whole bs p last.count)) (one-part last.index (omega (arith, one, many))) ∙ ready-whole bs last.count short few;
     } in
     subst (λ n. Tells codec blocks (bs ++ table_end last.index (n + 4) last.count)) (sym are.size) it
 
@@ -283,7 +265,6 @@ is-table {W} {V} codec told w last blocks e are small few told_is =
       told = t.told ∙ ap Some (entries-both blocks (open_block codec w) ∙ ap (λ es. entries_of blocks ++ es) (entries-open codec w));
       blocks = t.in_blocks;
       version = t.version;
-      ready = t.ready;
     }
 
 sink-error : {W V : Type 0} (codec : Codec V) (w : Making W V) (old new : Option (List ℕ)) (error : SstWriteError) → IsSinkError error → w.refusal ≡ None → ¬ IsTooLong codec w → AppendsPrefix old new (ending codec w) → StopsTable codec w old new error

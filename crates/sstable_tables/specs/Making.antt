@@ -12,7 +12,6 @@ use Rattle.sstable_blocks.specs.Content.{block}
 use Rattle.sstable_blocks.specs.Run.{Block, entries_of}
 use Rattle.sstable_blocks.specs.Writing.{keys_in, default_block_len, length_limit}
 use Rattle.sstable_format.specs.Version.{version_of}
-use Rattle.sstable_format.specs.Refused.{is_waiting}
 use Rattle.sstable_format.specs.Index.{IndexEntry}
 use Rattle.sstable_format.specs.Table.{sst_of, table_blocks}
 use Rattle.sstable_index.specs.Building.{with_last_key_shortened, index_part}
@@ -259,7 +258,6 @@ pub record IsTable {W V : Type 0} (codec : Codec V) (w : Making W V) (closed : L
   pub told : sst_of codec table ≡ Some (entries_of closed ++ w.gathered)
   pub blocks : table_blocks codec table ≡ Some (closed ++ open_block codec w)
   pub version : version_of table ≡ Some 3
-  pub ready : length (closed ++ open_block codec w) ≤ 1 → is_waiting table ≡ false
 
 -- where bytes are told, the last ones, as many as were counted, are those of the blocks
 abbrev pub AreLast : {V : Type 0} → Option (List ℕ) → ℕ → List (Block V) → Type 0

@@ -72,7 +72,7 @@ fn files_are_refused(rt: HostRuntime) -> Result<(), Fail> {
     assert_eq!(rt; documents(alloc, &[3, 0, 0]), Err(IndexError::Corrupt));
     let mut file = FILE;
     file[56] = 2;
-    assert_eq!(rt; documents(alloc, &file), Err(IndexError::NotYet));
+    assert_eq!(rt; documents(alloc, &file), Err(IndexError::Corrupt));
     let mut file = FILE;
     file[11] = 255;
     assert_eq!(rt; documents(alloc, &file), Err(IndexError::Corrupt));

@@ -73,7 +73,7 @@ fn tables_are_refused(rt: HostRuntime) -> Result<(), Fail> {
     table[43] = 4;
     assert_eq!(rt; num_terms(alloc, &table), Err(SstError::Version(4)));
     table[43] = 2;
-    assert_eq!(rt; num_terms(alloc, &table), Err(SstError::NotYet));
+    assert_eq!(rt; num_terms(alloc, &table), Err(SstError::Corrupt));
     assert_eq!(rt; num_terms(alloc, &TABLE[..46]), Err(SstError::Version(768)));
     assert_eq!(rt; num_terms(alloc, &TABLE[44..]), Err(SstError::Corrupt));
     assert_eq!(rt; num_terms(alloc, &TABLE[43..]), Err(SstError::Corrupt));

@@ -8,7 +8,6 @@ use Rattle.std.specs.declared.cmp.Ordering.{Ordering}
 use Rattle.std.specs.declared.cmp.Ordering.TheVariants.{Less, Equal, Greater}
 use Rattle.owned_bytes.specs.Front.{◌>>=◌, provided, continued, pieces}
 use Rattle.owned_bytes.specs.Keys.{Key, is_same, is_equal}
-use Rattle.owned_bytes.specs.Outside.{HasLength}
 use Rattle.owned_bytes.proofs.Pieces.{pieces-step, bind_some, some_is, provided-true}
 use Rattle.sstable_values.specs.Codec.{Codec}
 use Rattle.sstable_blocks.specs.Content.{Found}
@@ -17,14 +16,10 @@ unfoldable use Rattle.sstable_blocks.specs.Block.{block_of}
 use Rattle.sstable_blocks.specs.Run.{Block, Run, block_or_end, front_of_blocks, last_key, may_follow, key_before, entries_of}
 unfoldable use Rattle.sstable_blocks.specs.Run.{blocks_after, whole_run_of}
 use Rattle.sstable_blocks.proofs.RunLaws.{blocks-shrink, block-split}
-use Rattle.sstable_format.specs.Index.{is_zeros}
+use Rattle.sstable_format.specs.Index.{is_zeros, AtMostOneBlock}
 use Rattle.sstable_format.specs.Table.{keeping_nothing, indexes}
 unfoldable use Rattle.sstable_format.specs.Table.{points_to, places_from, blocks_of, blocks_under}
-use Rattle.tantivy_sstable.specs.Opened.{Opened, blocks_told, FetchesBlock}
 use Rattle.sstable_format.specs.Table.{longest}
-use Rattle.sstable_index.specs.Shown.{shown_index}
-use Rattle.sstable_index.specs.declared.index.SSTableIndex.{SSTableIndex}
-use Rattle.sstable_index.specs.declared.index.SSTableIndex.TheVariants.{V2, V3Empty}
 
 then-equal : (o r : Ordering) → is_equal (ordering_then o r) ≡ true → is_equal r ≡ true
 then-equal Less r e = absurd cc
@@ -95,40 +90,21 @@ one-longest [] one = omega arith
 one-longest (block ∷ []) one = omega arith
 one-longest (block ∷ next ∷ blocks) one = absurd (omega (arith, one))
 
-shown-one : {V : Type 0} (index : SSTableIndex) (blocks : List (Block V)) → indexes (shown_index index) blocks ≡ true → length blocks ≤ 1
-unfolding points_to places_from
-shown-one (V2 index) [] e = omega arith
-shown-one (V2 index) (block ∷ blocks) e = absurd cc
-shown-one (V3Empty index) blocks e = leb-true (length blocks) 1 e
-
 -- a block and four zero bytes, or these alone
-part-short : {V : Type 0} (codec : Codec V) (index : SSTableIndex) (count : ℕ) (part : List ℕ) (blocks : List (Block V)) → blocks_under codec (shown_index index) count part ≡ Some blocks → length part ≤ longest blocks + 4
+pub part-short : {V : Type 0} (codec : Codec V) (count : ℕ) (part : List ℕ) (blocks : List (Block V)) → blocks_under codec AtMostOneBlock count part ≡ Some blocks → length part ≤ longest blocks + 4
 unfolding blocks_under blocks_of whole_run_of
-part-short codec index count part blocks e =
-    let here = bind_some (blocks_of codec part) (λ blocks. provided (eqb count (length (entries_of blocks)) && indexes (shown_index index) blocks) >>= (λ _. Some blocks)) blocks e in
-    let test = bind_some (provided (eqb count (length (entries_of here.0)) && indexes (shown_index index) here.0)) (λ _. Some here.0) blocks here.2 in
+part-short codec count part blocks e =
+    let here = bind_some (blocks_of codec part) (λ blocks. provided (eqb count (length (entries_of blocks)) && indexes AtMostOneBlock blocks) >>= (λ _. Some blocks)) blocks e in
+    let test = bind_some (provided (eqb count (length (entries_of here.0)) && indexes AtMostOneBlock here.0)) (λ _. Some here.0) blocks here.2 in
     let run = bind_some (whole_run_of (keeping_nothing codec) part) (λ run. provided (is_zeros 4 run.rest) >>= (λ _. Some run.blocks)) here.0 here.1 in
     let zeros = bind_some (provided (is_zeros 4 run.0.rest)) (λ _. Some run.0.blocks) here.0 run.2 in
     let contents = bind_some (pieces front_of_blocks part) (λ contents. blocks_after (keeping_nothing codec) None contents.0 >>= (λ blocks. Some (record { blocks = blocks; rest = contents.1 }))) run.0 run.1 in
     let found = bind_some (blocks_after (keeping_nothing codec) None contents.0.0) (λ blocks. Some (record { blocks = blocks; rest = contents.0.1 })) run.0 contents.2 in
     let whole : record { blocks = found.0; rest = contents.0.1 } ≡ run.0 = some_is _ run.0 found.2 in
     let same : found.0 ≡ blocks = ap (λ (r : Run _). r.blocks) whole ∙ some_is _ here.0 zeros.2 ∙ some_is _ blocks test.2 in
-    let one = shown-one index here.0 (and_parts (eqb count (length (entries_of here.0))) (indexes (shown_index index) here.0) (provided-true _ _ test.1)).1 in
+    let one = leb-true (length here.0) 1 (and_parts (eqb count (length (entries_of here.0))) (indexes AtMostOneBlock here.0) (provided-true _ _ test.1)).1 in
     let few : length blocks ≤ 1 = omega (arith, one, ap length (some_is here.0 blocks test.2)) in
     let four : length run.0.rest ≡ 4 = same-length run.0.rest (0 ∷ 0 ∷ 0 ∷ 0 ∷ []) (provided-true _ _ zeros.1) in
     let size : length part ≡ total contents.0.0 + length contents.0.1 = pieces-total contents.0.0 part contents.0.1 contents.1 in
     let all : contents.0.0 ≡ contents_of blocks = sym (contents-are (keeping_nothing codec) None contents.0.0 found.0 found.1) ∙ ap contents_of same in
     omega (arith, size, ap total all, one-longest blocks few, four, ap (λ (r : Run _). length r.rest) whole)
-
-by_blocks : {V : Type 0} (codec : Codec V) (index : SSTableIndex) (count : ℕ) (part : List ℕ) (before now : ℕ) (found : Option (List (Block V))) → blocks_under codec (shown_index index) count part ≡ found → now ≤ before + length part → FetchesBlock found before now
-by_blocks codec index count part before now None is rise = tt
-by_blocks codec index count part before now (Some blocks) is rise = omega (arith, rise, part-short codec index count part blocks is)
-
-pub fetches-block : {V : Type 0} (codec : Codec V) (opened : Opened) (contents : Option (List ℕ)) (size before now : ℕ) (index : SSTableIndex) → opened.index ≡ shown_index index → HasLength contents size
-    → opened.blocks_range.end ≤ size → now ≤ before + (opened.blocks_range.end - opened.blocks_range.start) → FetchesBlock (blocks_told codec opened contents) before now
-fetches-block codec opened None size before now index is long fits rise = tt
-fetches-block codec opened (Some bytes) size before now index is long fits rise =
-    let part : List ℕ = slice_range bytes opened.blocks_range.start opened.blocks_range.end in
-    by_blocks codec index opened.num_terms (slice_range bytes opened.blocks_range.start opened.blocks_range.end) before now (blocks_told codec opened (Some bytes))
-    (ap (λ i. blocks_under codec i opened.num_terms (slice_range bytes opened.blocks_range.start opened.blocks_range.end)) (sym is))
-    (omega (arith, rise, long, fits, length-take (opened.blocks_range.end - opened.blocks_range.start) (drop opened.blocks_range.start bytes), length-drop opened.blocks_range.start bytes))

@@ -14,12 +14,11 @@ use Rattle.sstable_index.specs.Reading.{ReadsIndex}
 use Rattle.sstable_index.specs.declared.index.SSTableIndex.{SSTableIndex}
 use Rattle.sstable_index.specs.declared.index.SSTableIndex.TheVariants.{V2, V3Empty}
 use Rattle.sstable_index.specs.declared.errors.SstError.{SstError}
-use Rattle.sstable_index.specs.declared.errors.SstError.TheVariants.{Memory, Read, Corrupt, Compressed, Version, NotYet}
+use Rattle.sstable_index.specs.declared.errors.SstError.TheVariants.{Memory, Read, Corrupt, Compressed, Version}
 use Rattle.sstable_values.specs.Codec.{Codec}
 use Rattle.sstable_index.specs.Shown.{shown_index, IsWhole}
 use Rattle.tantivy_sstable.specs.Opened.{Opened, ReadsBlocks}
 use Rattle.tantivy_sstable.specs.Finding.{IsLookupError}
-use Rattle.tantivy_sstable.proofs.Fetching.{fetches-block}
 use Rattle.tantivy_sstable.specs.Opening.{table_at, TellsAt, FetchesIndex, ReadsEnds}
 use Rattle.tantivy_sstable.specs.Steps.{ReadsFooter, part_len}
 use Rattle.tantivy_sstable.proofs.Opens.{length-table}
@@ -31,7 +30,6 @@ failed-as Read failed = refl
 failed-as Corrupt failed = absurd cc
 failed-as (Compressed place) failed = absurd cc
 failed-as (Version version) failed = absurd cc
-failed-as NotYet failed = absurd cc
 
 pub failed-by : {A B : Type 0} (h : HandleError) (e : SstError) → e ≡ error_of_handle h → ReadFailed {T = B} (Err e) → FileFailed {T = A} (Err h)
 failed-by file.Memory e is failed = absurd cc
@@ -44,17 +42,15 @@ not_failed (Err e) other failed = other cc
 -- an index part that was read is no failed read
 pub not_read : (footer : Footer) (part : List ℕ) (result : Result SSTableIndex SstError) → ReadsIndex footer part result → ReadFailed result → ⊥
 not_read footer part (Ok index) reads failed = absurd cc
-not_read footer part (Err Memory) reads failed = reads
+not_read footer part (Err Memory) reads failed = absurd cc
 not_read footer part (Err Read) reads failed = reads
 not_read footer part (Err Corrupt) reads failed = absurd cc
-not_read footer part (Err (Compressed place)) reads failed = reads
+not_read footer part (Err (Compressed place)) reads failed = absurd cc
 not_read footer part (Err (Version version)) reads failed = reads
-not_read footer part (Err NotYet) reads failed = absurd cc
 
 -- an index that was read has one block of all bytes before its part
 pub reads-whole : (footer : Footer) (part : List ℕ) (result : Result SSTableIndex SstError) → ReadsIndex footer part result → IfOk result (λ index. IsWhole index footer.index_offset)
-reads-whole footer part (Ok (V2 index)) reads = tt
-reads-whole footer part (Ok (V3Empty index)) reads = (reads.2, reads.3)
+reads-whole footer part (Ok index) reads = reads.1
 reads-whole footer part (Err e) reads = tt
 
 pub whole-at : (index : SSTableIndex) (n m : ℕ) → n ≡ m → IsWhole index n → IsWhole index m
@@ -117,22 +113,3 @@ not_lookup (Err Read) is failed = is
 not_lookup (Err Corrupt) is failed = absurd cc
 not_lookup (Err (Compressed place)) is failed = absurd cc
 not_lookup (Err (Version version)) is failed = is
-not_lookup (Err NotYet) is failed = is
-
--- no block is read
-pub blocks-none : {V : Type 0} (codec : Codec V) (opened : Opened) (before : FileState) (index : SSTableIndex) (P : Type 0) → opened.index ≡ shown_index index → HasLength before.contents before.size
-    → opened.blocks_range.end ≤ before.size → (P → ⊥) → ReadsBlocks codec opened before before P
-blocks-none codec opened before index P is long within never = record {
-  reads = reads-none before P 1 (span_len opened.blocks_range) never;
-  block = fetches-block codec opened before.contents before.size before.fetched before.fetched index is long within (omega arith);
-}
-
--- the blocks are read at once
-pub blocks-read : {V : Type 0} (codec : Codec V) (opened : Opened) (before now : FileState) (range : Span) (index : SSTableIndex) (P Q : Type 0) → opened.index ≡ shown_index index → range ≡ opened.blocks_range
-    → HasLength before.contents before.size → opened.blocks_range.end ≤ before.size → (Q → P) → ReadsPart before now P (span_len range) → ReadsBlocks codec opened before now Q
-blocks-read codec opened before now range index P Q is same long within as_failed part =
-    let len : span_len range ≡ span_len opened.blocks_range = ap span_len same in
-    record {
-      reads = part-read before now P Q (span_len range) (span_len opened.blocks_range) as_failed part (omega (arith, len));
-      block = fetches-block codec opened before.contents before.size before.fetched now.fetched index is long within (omega (arith, len, part.reads.fetched));
-    }

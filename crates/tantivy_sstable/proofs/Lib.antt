@@ -1,6 +1,8 @@
 pub mod Opens
 pub mod FileLaws
 pub mod Finding
-pub mod Seeking
 pub mod Standing
 pub mod Fetching
+pub mod Searched
+pub mod KeyBlocks
+pub mod Getting

@@ -1,5 +1,5 @@
 -- What the steps of opening a table make of it.
-use Rattle.std.proofs.Common.{◌≡◌, ℕ, ◌+◌, ◌-◌, ◌<◌, ◌≤◌, List, length, take, drop, min, Option, Some, None, Result, Ok, Err, refl, ap, sym, ◌∙◌, subst, arith, ⊎_elim, length-drop, length-take, drop-drop}
+use Rattle.std.proofs.Common.{◌≡◌, ℕ, ◌+◌, ◌-◌, ◌^◌, ◌<◌, ◌≤◌, List, length, take, drop, min, Option, Some, None, Result, Ok, Err, refl, ap, sym, ◌∙◌, subst, arith, ⊎_elim, length-drop, length-take, drop-drop}
 use Rattle.std.proofs.lemmas.Bool.{ne_eqb}
 use Rattle.std.proofs.lemmas.List.{drop-take, take-take, take_all}
 use Rattle.std.specs.Int.{w32}
@@ -23,11 +23,11 @@ use Rattle.sstable_index.specs.Shown.{shown_index}
 use Rattle.sstable_index.specs.declared.index.SSTableIndex.{SSTableIndex}
 use Rattle.sstable_format.specs.declared.footer.Footer.{Footer}
 use Rattle.sstable_index.specs.declared.errors.SstError.{SstError}
-use Rattle.sstable_index.specs.declared.errors.SstError.TheVariants.{Memory, Read, Corrupt, Compressed, Version, NotYet}
+use Rattle.sstable_index.specs.declared.errors.SstError.TheVariants.{Memory, Read, Corrupt, Compressed, Version}
 use Rattle.sstable_format.proofs.Ends.{at_end-none}
-use Rattle.sstable_format.proofs.Endings.{unknown-known, known-known, parts_of-short, is_waiting-short, is_waiting-v3, is_waiting-near}
-use Rattle.sstable_format.proofs.Parts.{body_of, length-body, sst_of-parts_none, none-v2, none-v3, found-is, blocks-is}
-use Rattle.sstable_index.proofs.ReadingLaws.{index-is, waits-not}
+use Rattle.sstable_format.proofs.Endings.{unknown-known, known-known, parts_of-short}
+use Rattle.sstable_format.proofs.Parts.{body_of, sst_of-parts_none, found-is, blocks-is}
+use Rattle.sstable_index.proofs.Usable.{index-is, no-table, compressed-in}
 
 pub opens-short : {V : Type 0} (codec : Codec V) (contents : Option (List ℕ)) (file : Span) → file.end - file.start < 4 → OpensAt codec contents file (Err Corrupt)
 opens-short codec None file short = tt
@@ -35,7 +35,6 @@ opens-short codec (Some bytes) file short =
     let table : List ℕ = slice_range bytes file.start file.end in
     let len : length (slice_range bytes file.start file.end) < 4 = omega (arith, short, length-take (file.end - file.start) (drop file.start bytes)) in (
       ap (λ o. is_some ((o >>= (λ (ended : ℕ × List ℕ). Some ended.0)) >>= (λ v. provided (not (is_known v))))) (at_end-none 4 (number_at w32) (slice_range bytes file.start file.end) len),
-      is_waiting-short (slice_range bytes file.start file.end) (omega (arith, len)),
       sst_of-parts_none codec (slice_range bytes file.start file.end) (parts_of-short (slice_range bytes file.start file.end) (omega (arith, len))),
     )
 
@@ -89,31 +88,22 @@ told-of state file place ending k fact long room fits is at read all = by state.
 opens-by_footer : {V : Type 0} (codec : Codec V) (bytes table : List ℕ) (e : SstError) → ReadsFooter (Err e) table → Opens codec bytes table (Err e)
 opens-by_footer codec bytes table Memory told = tt
 opens-by_footer codec bytes table Read told = tt
-opens-by_footer codec bytes table Corrupt told = (told.0, told.1, sst_of-parts_none codec table told.2)
+opens-by_footer codec bytes table Corrupt told = (told.0, sst_of-parts_none codec table told.1)
 opens-by_footer codec bytes table (Compressed place) told = absurd told
 opens-by_footer codec bytes table (Version version) told = told
-opens-by_footer codec bytes table NotYet told = told
 
 pub opens-footer : {V : Type 0} (codec : Codec V) (contents : Option (List ℕ)) (file : Span) (e : SstError) → TellsAt contents file (ReadsFooter (Err e)) → OpensAt codec contents file (Err e)
 opens-footer codec None file e told = tt
 opens-footer codec (Some bytes) file e told = opens-by_footer codec bytes (table_at bytes file) e told
 
-opens-by_index : {V : Type 0} (codec : Codec V) (bytes table : List ℕ) (footer : Footer) (e : SstError) → HasFooter table footer → ReadsIndexAt footer (Err e) table → Opens codec bytes table (Err e)
-opens-by_index codec bytes table footer Memory h reads = tt
-opens-by_index codec bytes table footer Read h reads = tt
-opens-by_index codec bytes table footer Corrupt h reads = (
-  unknown-known table footer.version h.told h.known,
-  ⊎_elim (λ two. is_waiting-short table (h.early two.0))
-      (λ three. is_waiting-near table (body_of table) footer h.read three.0
-      (omega (arith, three.1, length-drop footer.index_offset (body_of table)))) reads,
-  ⊎_elim (λ two. none-v2 codec table footer h two.0 two.1)
-      (λ three. none-v3 codec table footer h three.0 three.1) reads,
-)
-opens-by_index codec bytes table footer (Compressed place) h reads = absurd reads
-opens-by_index codec bytes table footer (Version version) h reads = absurd reads
-opens-by_index codec bytes table footer NotYet h reads =
-    is_waiting-v3 table (body_of table) (index_part_at footer.index_offset table) footer h.read reads.0 (length-body table footer h) refl reads.3.0
-    ∙ ap (λ t. is_some (provided (not t))) (ne_eqb _ _ (λ zero. reads.2 (sym reads.3.1 ∙ zero)))
+opens-by_index : {V : Type 0} (codec : Codec V) (bytes table : List ℕ) (footer : Footer) (e : SstError) → HasFooter table footer → length table < 2 ^ 64 → footer.num_terms < 2 ^ 64
+    → ReadsIndexAt footer (Err e) table → Opens codec bytes table (Err e)
+opens-by_index codec bytes table footer Memory h short few reads = tt
+opens-by_index codec bytes table footer Read h short few reads = tt
+opens-by_index codec bytes table footer Corrupt h short few reads = (unknown-known table footer.version h.told h.known, no-table codec table footer h short few reads)
+opens-by_index codec bytes table footer (Compressed place) h short few reads =
+    (known-known table footer.version h.told h.known, no-table codec table footer h short few reads.0, compressed-in table footer place reads.1)
+opens-by_index codec bytes table footer (Version version) h short few reads = absurd reads
 
 -- where the index part stands in the file
 part-of_table : (bytes : List ℕ) (file : Span) (offset : ℕ) → file.start ≤ file.end → file.end ≤ length bytes → offset + 20 ≤ file.end - file.start
@@ -132,9 +122,8 @@ index-at footer (Ok index) table part is reads = subst (λ (l : List ℕ). Reads
 index-at footer (Err Memory) table part is reads = tt
 index-at footer (Err Read) table part is reads = tt
 index-at footer (Err Corrupt) table part is reads = subst (λ (l : List ℕ). ReadsIndex footer l (Err Corrupt)) is reads
-index-at footer (Err (Compressed place)) table part is reads = absurd reads
+index-at footer (Err (Compressed place)) table part is reads = subst (λ (l : List ℕ). ReadsIndex footer l (Err (Compressed place))) is reads
 index-at footer (Err (Version version)) table part is reads = absurd reads
-index-at footer (Err NotYet) table part is reads = subst (λ (l : List ℕ). ReadsIndex footer l (Err NotYet)) is reads
 
 pub index-told : (state : FileState) (file place : Span) (part : List ℕ) (footer : Footer) (result : Result SSTableIndex SstError) → HasLength state.contents state.size → file.end ≤ state.size
     → footer.index_offset + 20 ≤ span_len file → place ≡ part_of file footer.index_offset (span_len file - 20) → IsRead state place.start place.end part → ReadsIndex footer part result
@@ -151,10 +140,11 @@ index-told state file place part footer result long fits room at read reads = by
         (is ∙ ap (λ n. slice_range bytes n place.end) first ∙ ap (λ n. slice_range bytes (file.start + footer.index_offset) n) last
         ∙ part-of_table bytes file footer.index_offset ordered (omega (arith, long, fits)) room) reads
 
-pub opens-index : {V : Type 0} (codec : Codec V) (contents : Option (List ℕ)) (file : Span) (footer : Footer) (e : SstError) → TellsAt contents file (ReadsFooter (Ok footer)) → TellsAt contents file (ReadsIndexAt footer (Err e))
-    → OpensAt codec contents file (Err e)
-opens-index codec None file footer e told reads = tt
-opens-index codec (Some bytes) file footer e told reads = opens-by_index codec bytes (table_at bytes file) footer e told reads
+pub opens-index : {V : Type 0} (codec : Codec V) (contents : Option (List ℕ)) (file : Span) (footer : Footer) (e : SstError) → file.end < 2 ^ 64 → footer.num_terms < 2 ^ 64
+    → TellsAt contents file (ReadsFooter (Ok footer)) → TellsAt contents file (ReadsIndexAt footer (Err e)) → OpensAt codec contents file (Err e)
+opens-index codec None file footer e small few told reads = tt
+opens-index codec (Some bytes) file footer e small few told reads =
+    opens-by_index codec bytes (table_at bytes file) footer e told (omega (arith, small, length-take (file.end - file.start) (drop file.start bytes))) few reads
 
 -- the front of a table stands at the front of its range
 front-of_table : (bytes : List ℕ) (file : Span) (offset : ℕ) → file.start ≤ file.end → file.end ≤ length bytes → offset + 20 ≤ file.end - file.start
@@ -178,11 +168,10 @@ opens-found codec (Some bytes) file front footer index size long fits room told 
     let here : slice_range bytes front.start front.end ≡ take footer.index_offset (body_of (table_at bytes file)) =
     ap (λ n. slice_range bytes n front.end) start ∙ ap (λ n. slice_range bytes file.start n) end ∙ front-of_table bytes file footer.index_offset ordered inside room in (
       known-known (table_at bytes file) footer.version told.told told.known,
-      waits-not (table_at bytes file) (index_part_at footer.index_offset (table_at bytes file)) footer index told refl reads,
       ap (entries_under codec (shown_index index) footer.num_terms) here
-          ∙ sym (found-is codec (table_at bytes file) footer (shown_index index) told (index-is (table_at bytes file) (index_part_at footer.index_offset (table_at bytes file)) footer index told refl reads)),
+          ∙ sym (found-is codec (table_at bytes file) footer (shown_index index) told (index-is footer.version (index_part_at footer.index_offset (table_at bytes file)) (shown_index index) reads.0)),
       ap (blocks_under codec (shown_index index) footer.num_terms) here
-          ∙ sym (blocks-is codec (table_at bytes file) footer (shown_index index) told (index-is (table_at bytes file) (index_part_at footer.index_offset (table_at bytes file)) footer index told refl reads)),
+          ∙ sym (blocks-is codec (table_at bytes file) footer (shown_index index) told (index-is footer.version (index_part_at footer.index_offset (table_at bytes file)) (shown_index index) reads.0)),
     )
 
 -- a file of these bytes, opened whole

@@ -109,7 +109,7 @@ compressed-front bytes rest long some one =
     ∙ ap (λ o. is_some (o >>= (λ (compress : ℕ × List ℕ). provided (nat_le 2 (from_le_bytes w32 (take 4 bytes)) && (compress.0 == 1))))) (number_at-front w8 (1 ∷ rest) (omega arith))
     ∙ ap (λ t. is_some (provided (t && true))) (le-leb 2 (from_le_bytes w32 (take 4 bytes)) some)
 
-found-compressed : (place p : ℕ) (bytes : List ℕ) → block_at place bytes ≡ Err (blocks.Compressed p) → (place ≡ p) × (is_compressed_at 0 bytes ≡ true)
+pub found-compressed : (place p : ℕ) (bytes : List ℕ) → block_at place bytes ≡ Err (blocks.Compressed p) → (place ≡ p) × (is_compressed_at 0 bytes ≡ true)
 unfolding block_at
 found-compressed place p bytes e =
     let some = no_end (length bytes == 0) _ (blocks.Compressed p) e in
@@ -156,7 +156,6 @@ tells-at (Some bytes) range start end part (errors.Compressed place) a b is tell
     ap (is_compressed_at place) (sym (is ∙ ap (λ n. slice_range bytes n end) a ∙ ap (λ n. slice_range bytes range.start n) b)) ∙ tells
 tells-at (Some bytes) range start end part errors.Read a b is tells = tt
 tells-at (Some bytes) range start end part (errors.Version version) a b is tells = tt
-tells-at (Some bytes) range start end part errors.NotYet a b is tells = tt
 
 -- a failed read tells no place
 pub tells-unread : (contents : Option (List ℕ)) (range : Span) (h : HandleError) (error : SstError) → error ≡ error_of_handle h → TellsPlaceAt contents range error

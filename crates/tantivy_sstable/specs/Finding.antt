@@ -1,8 +1,9 @@
 -- What a look-up in a table answers.
-use Rattle.std.specs.Prelude.{◌⊎◌, ◌≡◌, ℕ, List, Option, Some, None, option_map, slice_range, Result, Ok, Err, true}
+use Rattle.std.specs.Prelude.{◌⊎◌, ◌≡◌, ◌≤◌, ◌-◌, ◌+◌, ℕ, List, Option, Some, None, option_map, slice_range, Result, Ok, Err, true}
 use Rattle.owned_bytes.specs.Keys.{Key}
-use Rattle.common_wire.specs.Slices.{Span}
-use Rattle.sstable_values.specs.Codec.{Codec}
+use Rattle.owned_bytes.specs.Outside.{FileState, IsRead}
+use Rattle.common_wire.specs.Slices.{Span, span_len}
+use Rattle.sstable_values.specs.Codec.{Codec, Address}
 use Rattle.sstable_blocks.specs.Run.{run_of}
 unfoldable use Rattle.sstable_format.specs.Entries.{value_at}
 use Rattle.sstable_format.specs.Refused.{is_compressed_at}
@@ -26,7 +27,6 @@ IsLookupError errors.Corrupt = Unit {0}
 IsLookupError (errors.Compressed place) = Unit {0}
 IsLookupError errors.Read = ⊥
 IsLookupError (errors.Version version) = ⊥
-IsLookupError errors.NotYet = ⊥
 
 -- what a look-up answers, where the entries are told
 abbrev pub FindsTold : {V W : Type 0} → (W → V) → Option (List (Key × V)) → Key → Result (Option W) SstError → Type 0
@@ -45,7 +45,6 @@ IsReadingError errors.Corrupt = Unit {0}
 IsReadingError (errors.Compressed place) = Unit {0}
 IsReadingError errors.Read = Unit {0}
 IsReadingError (errors.Version version) = ⊥
-IsReadingError errors.NotYet = ⊥
 
 -- a block is answered to be compressed only where one stands at the place
 abbrev pub TellsPlace : List ℕ → SstError → Type 0
@@ -54,9 +53,34 @@ TellsPlace table errors.Corrupt = Unit {0}
 TellsPlace table (errors.Compressed place) = is_compressed_at place table ≡ true
 TellsPlace table errors.Read = Unit {0}
 TellsPlace table (errors.Version version) = Unit {0}
-TellsPlace table errors.NotYet = Unit {0}
 
 -- the same in the bytes at a range of the contents, where they are told
 abbrev pub TellsPlaceAt : Option (List ℕ) → Span → SstError → Type 0
 TellsPlaceAt None range error = Unit {0}
 TellsPlaceAt (Some contents) range error = TellsPlace (slice_range contents range.start range.end) error
+
+-- the same in bytes that stand in the table from the start on
+abbrev pub TellsPlaceFrom : ℕ → List ℕ → SstError → Type 0
+TellsPlaceFrom start bytes errors.Memory = Unit {0}
+TellsPlaceFrom start bytes errors.Corrupt = Unit {0}
+TellsPlaceFrom start bytes (errors.Compressed place) = (start ≤ place) × (is_compressed_at (place - start) bytes ≡ true)
+TellsPlaceFrom start bytes errors.Read = Unit {0}
+TellsPlaceFrom start bytes (errors.Version version) = Unit {0}
+
+-- a block lies within the range of blocks
+pub record LiesIn (range : Span) (block : Address) : Type 0 where
+  pub ordered : block.start ≤ block.end
+  pub within : block.end ≤ span_len range
+
+-- The bytes of a block of a file, which lies within the range.
+pub record IsBlockAt (file : FileState) (range : Span) (block : Address) (bytes : List ℕ) : Type 0 where
+  pub lies : LiesIn range block
+  pub read : IsRead file (range.start + block.start) (range.start + block.end) bytes
+
+-- a block isn't read for want of memory, by the file, or where it doesn't lie within the range
+abbrev pub FailsToRead : Span → Address → SstError → Type 0
+FailsToRead range block errors.Memory = Unit {0}
+FailsToRead range block errors.Read = Unit {0}
+FailsToRead range block errors.Corrupt = LiesIn range block → ⊥
+FailsToRead range block (errors.Compressed place) = ⊥
+FailsToRead range block (errors.Version version) = ⊥

@@ -6,25 +6,23 @@ use Rattle.sstable_values.specs.Codec.{Codec}
 use Rattle.sstable_format.specs.Footer.{footer_len}
 use Rattle.sstable_format.specs.Table.{index_part_of, table_blocks, sst_of}
 use Rattle.sstable_format.specs.Version.{version_of, is_known, has_known_version, has_unknown_version}
-use Rattle.sstable_format.specs.Refused.{is_waiting, is_compressed_at}
+use Rattle.sstable_format.specs.Refused.{is_compressed_at}
 use Rattle.sstable_index.specs.declared.errors.SstError.{SstError}
-use Rattle.sstable_index.specs.declared.errors.SstError.TheVariants.{Memory, Read, Corrupt, Compressed, Version, NotYet}
+use Rattle.sstable_index.specs.declared.errors.SstError.TheVariants.{Memory, Read, Corrupt, Compressed, Version}
 use Rattle.tantivy_sstable.specs.Opened.{Opened, entries_in, blocks_in}
 
 -- What opening a table answers, by its bytes and those of the file that it stands in. A dictionary has the entries and
 -- the blocks of the table, and none where the table is damaged.
 abbrev pub Opens : {V : Type 0} → Codec V → List ℕ → List ℕ → Result Opened SstError → Type 0
 Opens codec contents table (Ok opened) =
-    (has_known_version table ≡ true) × (is_waiting table ≡ false) × (entries_in codec opened contents ≡ sst_of codec table)
+    (has_known_version table ≡ true) × (entries_in codec opened contents ≡ sst_of codec table)
     × (blocks_in codec opened contents ≡ table_blocks codec table)
 Opens codec contents table (Err Memory) = ⊤
 Opens codec contents table (Err Read) = ⊤
-Opens codec contents table (Err Corrupt) =
-    (has_unknown_version table ≡ false) × (is_waiting table ≡ false) × (sst_of codec table ≡ None)
+Opens codec contents table (Err Corrupt) = (has_unknown_version table ≡ false) × (sst_of codec table ≡ None)
 Opens codec contents table (Err (Compressed place)) =
-    (has_known_version table ≡ true) × (is_waiting table ≡ false) × (sst_of codec table ≡ None) × (is_compressed_at place table ≡ true)
+    (has_known_version table ≡ true) × (sst_of codec table ≡ None) × (is_compressed_at place table ≡ true)
 Opens codec contents table (Err (Version version)) = (version_of table ≡ Some version) × (is_known version ≡ false)
-Opens codec contents table (Err NotYet) = is_waiting table ≡ true
 
 -- the table that stands at a range of a file
 abbrev pub table_at : List ℕ → Span → List ℕ

@@ -6,10 +6,9 @@ use Rattle.sstable_format.specs.Footer.{footer_len}
 use Rattle.sstable_format.specs.Ending.{HasFooter}
 use Rattle.sstable_format.specs.Table.{parts_of, index_part_at}
 use Rattle.sstable_format.specs.Version.{version_of, is_known, has_unknown_version}
-use Rattle.sstable_format.specs.Refused.{is_waiting}
 use Rattle.sstable_index.specs.Reading.{ReadsIndex}
 use Rattle.sstable_index.specs.declared.errors.SstError.{SstError}
-use Rattle.sstable_index.specs.declared.errors.SstError.TheVariants.{Memory, Read, Corrupt, Compressed, Version, NotYet}
+use Rattle.sstable_index.specs.declared.errors.SstError.TheVariants.{Memory, Read, Corrupt, Compressed, Version}
 use Rattle.sstable_index.specs.declared.index.SSTableIndex.{SSTableIndex}
 
 -- what the end of a table tells
@@ -17,10 +16,9 @@ abbrev pub ReadsFooter : Result Footer SstError → List ℕ → Type 0
 ReadsFooter (Ok footer) table = HasFooter table footer
 ReadsFooter (Err Memory) table = ⊤
 ReadsFooter (Err Read) table = ⊤
-ReadsFooter (Err Corrupt) table = (has_unknown_version table ≡ false) × (is_waiting table ≡ false) × (parts_of table ≡ None)
+ReadsFooter (Err Corrupt) table = (has_unknown_version table ≡ false) × (parts_of table ≡ None)
 ReadsFooter (Err (Compressed place)) table = ⊥
 ReadsFooter (Err (Version version)) table = (version_of table ≡ Some version) × (is_known version ≡ false)
-ReadsFooter (Err NotYet) table = is_waiting table ≡ true
 
 -- what the index part before a table's footer tells
 abbrev pub ReadsIndexAt : Footer → Result SSTableIndex SstError → List ℕ → Type 0

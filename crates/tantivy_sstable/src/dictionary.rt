@@ -1,5 +1,5 @@
 // Tables that are looked up.
-ghost use Rattle.std.specs.Prelude.{◌≡◌, ◌≢◌, ◌≤◌, ◌+◌, ◌-◌, ◌<◌, ℕ, List, length, min, true, IfOk, IfErr, Err};
+ghost use Rattle.std.specs.Prelude.{◌≡◌, ◌≢◌, ◌≤◌, ◌+◌, ◌-◌, ◌<◌, ◌^◌, ℕ, List, length, min, true, IfOk, IfErr, Err};
 ghost use Rattle.owned_bytes.specs.Outside.{ReadsFile};
 ghost use Rattle.common_wire.specs.Slices.{span_len};
 ghost use Rattle.sstable_format.specs.Ending.{IsEnding};
@@ -8,19 +8,16 @@ ghost use Rattle.sstable_index.specs.Errors.{ReadFailed};
 ghost use Rattle.sstable_index.specs.Shown.{IsWhole};
 ghost use Rattle.tantivy_sstable.specs.Opening.{Opens, OpensAt, TellsAt, LiesWithin, ReadsEnds, without_file};
 ghost use Rattle.tantivy_sstable.specs.Opened.{ReadsBlocks};
-ghost use Rattle.tantivy_sstable.specs.Finding.{FindsIn, IsReadingError, TellsPlaceAt};
+ghost use Rattle.tantivy_sstable.specs.Finding.{FindsIn, IsReadingError, TellsPlaceAt, IsBlockAt, FailsToRead};
 ghost use Rattle.tantivy_sstable.specs.Steps.{ReadsFooter, ReadsIndexAt, part_len};
 
 use crate::lookup::value_in;
-use crate::{SSTable, SSTableIndex, SstError, Writer};
+use crate::{BlockAddr, SSTable, SSTableIndex, SstError, Writer};
 use common_wire::FileSlice;
 use owned_bytes::{BytesFile, FileHandle, HasLen, OwnedBytes, Sink};
 use sstable_format::{FOOTER_LEN, Footer, VERSION_LEN, is_known, version_of};
 use std::alloc::Global;
 use std::marker::{Model, PhantomData};
-
-// A table of version 2 that has keys has at least so many bytes.
-const KEYED_V2_LEN: usize = 28;
 
 /// A sorted map from byte strings to values in a file, which is read as it is looked up.
 ///
@@ -129,13 +126,37 @@ impl<S: SSTable> Dictionary<S> {
         ensures compressed { IfErr result (TellsPlaceAt (H.state handle.old).contents self.now.blocks_range) }
         ensures reads { ReadsBlocks S.ValueReader.codec self.now (H.state handle.old) (H.state handle.new) (ReadFailed result) }
     {
-        if let SSTableIndex::V2(_) = &self.sstable_index {
-            return Ok(None);
+        let block = match self.sstable_index.get_block_with_key(key) {
+            Some(block) => block,
+            None => return Ok(None),
+        };
+        match read_block(alloc, handle, self.sstable_slice, &block) {
+            Ok(bytes) => value_in::<S>(alloc, bytes, block.byte_range.start as u64, key),
+            Err(e) => Err(e),
         }
-        match self.sstable_slice.read_bytes(alloc, handle) {
-            Ok(blocks) => value_in::<S>(alloc, blocks, key),
-            Err(e) => Err(SstError::from(e)),
-        }
+    }
+}
+
+// Reads a block of a table whose blocks stand at the slice.
+fn read_block<H: FileHandle>(
+    alloc: Global,
+    handle: &mut H,
+    slice: FileSlice,
+    block: &BlockAddr,
+) -> Result<OwnedBytes, SstError>
+    requires { slice.end ≤ (H.state handle.old).size }
+    ensures part { IfOk result (IsBlockAt (H.state handle.old) slice block.now) }
+    ensures error { IfErr result (FailsToRead slice block.now) }
+    ensures reads { ReadsFile (H.state handle.old) (H.state handle.new) (ReadFailed result) 1 (min (block.now.end - block.now.start) (span_len slice)) }
+{
+    let start = block.byte_range.start;
+    let end = block.byte_range.end;
+    if end < start || slice.len() < end {
+        return Err(SstError::Corrupt);
+    }
+    match slice.read_bytes_slice(alloc, handle, start..end) {
+        Ok(bytes) => Ok(bytes),
+        Err(e) => Err(SstError::from(e)),
     }
 }
 
@@ -150,6 +171,7 @@ fn read_footer<H: FileHandle>(
     ensures told { TellsAt (H.state handle.old).contents file (ReadsFooter result) }
     ensures known { IfOk result (λ footer. versions.is_known footer.version ≡ true) }
     ensures fits { IfOk result (λ footer. footer.index_offset + FOOTER_LEN ≤ span_len file) }
+    ensures few { IfOk result (λ footer. footer.num_terms < 2 ^ 64) }
     ensures reads { ReadsFile (H.state handle.old) (H.state handle.new) (ReadFailed result) 1 FOOTER_LEN }
 {
     let ending = file.slice_from_end(file.len().min(FOOTER_LEN));
@@ -175,7 +197,7 @@ fn read_index<H: FileHandle>(
 {
     let part = file.slice(footer.index_offset as usize..file.len() - FOOTER_LEN);
     match part.read_bytes(alloc, handle) {
-        Ok(bytes) => SSTableIndex::load(footer, bytes.as_slice()),
+        Ok(bytes) => SSTableIndex::load(alloc, footer, bytes),
         Err(e) => Err(SstError::from(e)),
     }
 }
@@ -187,6 +209,7 @@ fn footer_of(ending: OwnedBytes, len: usize) -> Result<Footer, SstError>
     ensures told { (table : List ℕ) → length table ≡ len → IsEnding table ending → ReadsFooter result table }
     ensures known { IfOk result (λ footer. versions.is_known footer.version ≡ true) }
     ensures fits { IfOk result (λ footer. footer.index_offset + FOOTER_LEN ≤ len) }
+    ensures few { IfOk result (λ footer. footer.num_terms < 2 ^ 64) }
     ensures error { IfErr result (λ e. e ≢ SstError.Read) }
 {
     let version = version_of(ending.as_slice());
@@ -197,9 +220,6 @@ fn footer_of(ending: OwnedBytes, len: usize) -> Result<Footer, SstError>
         return Err(SstError::Corrupt);
     }
     let footer = Footer::read(ending);
-    if version == 2 && len >= KEYED_V2_LEN {
-        return Err(SstError::NotYet);
-    }
     if footer.index_offset > (len - FOOTER_LEN) as u64 {
         return Err(SstError::Corrupt);
     }

@@ -38,7 +38,7 @@ module _ (query field file : List ℕ) (docs : List Doc) (written : IsWrittenFor
   whole : IsWhole (Some file)
   whole = (
     λ none. apart (table_of file) (gather docs) none written.index.table,
-    record { known = ap (λ (o : Option ℕ). is_some (o >>= (λ v. provided (is_known v)))) written.version; ready = written.ready },
+    ap (λ (o : Option ℕ). is_some (o >>= (λ v. provided (is_known v)))) written.version,
   )
 
   pub ends_over_file : (state : FileState) (outcome : Outcome) → state.contents ≡ Some file → HasCause 0 0 (outcome ≡ ReadFault) → SearchEnds query state outcome → QuestionEnds query docs outcome

@@ -3,7 +3,6 @@ pub mod Forms
 pub mod OneCommand
 pub mod Prefixes
 pub mod Valid
-pub mod OtherVersion
 pub mod SourceLaws
 pub mod GivingLaws
 pub mod BuildLaws

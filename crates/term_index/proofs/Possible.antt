@@ -154,7 +154,6 @@ of_build pages left outcome ends = elim ends.ends [
 
 of_file : (file : Option (List ℕ)) (outcome : Outcome) → SaysOfFile outcome file → may_search outcome ≡ true
 of_file file Done says = refl
-of_file file NotYet says = refl
 of_file file (Version version) says = refl
 of_file file Corrupt says = refl
 of_file file (Compressed place) says = refl

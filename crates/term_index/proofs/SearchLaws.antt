@@ -9,7 +9,7 @@ use Rattle.query_tree.specs.declared.tree.UserInputAst.{UserInputAst}
 use Rattle.query_tree.specs.Answer as grammar
 use Rattle.query_tree.specs.Answer.{tree_of}
 use Rattle.sstable_format.specs.Version.{is_known, has_known_version, has_unknown_version}
-use Rattle.index_file.specs.Opening.{CanBeOpened, is_waiting_file}
+use Rattle.index_file.specs.Opening.{CanBeOpened}
 use Rattle.term_search.specs.declared.answer.Answer.{Answer}
 use Rattle.term_search.specs.declared.answer.Kind.{Kind}
 use Rattle.term_search.specs.declared.answer.Kind.TheVariants.{Slop, Regex}
@@ -23,7 +23,6 @@ use Rattle.term_index.specs.Outcomes.{IsAmong}
 use Rattle.term_index.specs.Printing.{lines, PrintsText}
 use Rattle.term_index.specs.Search.{unsupported_end, leaves_end, answer_end, query_end, IsOfVersion, SaysOfFile, FileEnds, SearchEnds, error_end, IsFound, Searches}
 use Rattle.term_index.proofs.GivingLaws.{gives_nothing, gives_text}
-use Rattle.term_index.proofs.OtherVersion.{other_version_ready}
 
 -- ---- by the query
 
@@ -118,9 +117,8 @@ is_other bytes version other =
 
 -- a file of another version
 other_version : (bytes : List ℕ) (version : ℕ) → IsOfVersion bytes version → (outcome : Outcome) → SaysOfFile outcome (Some bytes) → IsAmong (Version version ∷ ReadFault ∷ Memory ∷ []) outcome
-other_version bytes version other Done says = both_ways (has_known_version bytes) says.known (not_known bytes version other)
-other_version bytes version other OutFault says = both_ways (has_known_version bytes) says.known (not_known bytes version other)
-other_version bytes version other NotYet says = both_ways (is_waiting_file bytes) says (other_version_ready bytes version other.version_is other.unknown)
+other_version bytes version other Done says = both_ways (has_known_version bytes) says (not_known bytes version other)
+other_version bytes version other OutFault says = both_ways (has_known_version bytes) says (not_known bytes version other)
 other_version bytes version other (Version found) says = inl (let e : Some found ≡ Some version = sym says.version_is ∙ other.version_is in cc)
 other_version bytes version other Corrupt says = both_ways (has_unknown_version bytes) (is_other bytes version other) says.no_other_version
 other_version bytes version other (Compressed place) says = both_ways (has_unknown_version bytes) (is_other bytes version other) says.damaged.no_other_version
@@ -134,8 +132,7 @@ whole_file bytes whole Done says = inl refl
 whole_file bytes whole ReadFault says = inr (inl refl)
 whole_file bytes whole OutFault says = inr (inr (inl refl))
 whole_file bytes whole Memory says = inr (inr (inr (inl refl)))
-whole_file bytes whole NotYet says = both_ways (is_waiting_file bytes) says whole.1.ready
-whole_file bytes whole (Version version) says = both_ways (has_known_version bytes) whole.1.known (not_known bytes version says)
+whole_file bytes whole (Version version) says = both_ways (has_known_version bytes) whole.1 (not_known bytes version says)
 whole_file bytes whole Corrupt says = absurd (whole.0 says.no_table)
 whole_file bytes whole (Compressed place) says = absurd (whole.0 says.damaged.no_table)
 whole_file bytes whole _ says = absurd says
@@ -165,12 +162,7 @@ module _ (query field : List ℕ) where
   error_says file errors.TooDeep says told searched = absurd (no_answer query grammar.TooDeep says (λ tree e. cc) searched)
   error_says file (errors.Unsupported Slop) says told searched = absurd (no_kind query Slop says searched)
   error_says file (errors.Unsupported Regex) says told searched = absurd (no_kind query Regex says searched)
-  error_says file errors.NotYet says told searched = by file told
-    where
-      by : (told_file : Option (List ℕ)) → AnswersTold told_file query field (Err errors.NotYet) → SaysOfFile NotYet told_file
-      by None told = tt
-      by (Some bytes) (inl leaf) = absurd (no_leaf query leaf.0 leaf.1 leaf.2 searched)
-      by (Some bytes) (inr waiting) = waiting
+  error_says file errors.NotYet says told searched = absurd (no_leaf query says.0 says.1 says.2 searched)
   error_says file (errors.Version version) says told searched = by file told
     where
       by : (told_file : Option (List ℕ)) → AnswersTold told_file query field (Err (errors.Version version)) → SaysOfFile (Version version) told_file

@@ -9,7 +9,7 @@ use Rattle.sstable_format.specs.Refused.{is_compressed_at}
 use Rattle.documents.specs.declared.documents.Doc.{Doc}
 use Rattle.printed_queries.specs.Law.{satisfying, AnswersPrinted}
 use Rattle.index_file.specs.IndexFile.{IsIndexOf}
-use Rattle.index_file.specs.Opening.{CanBeOpened, IsDamaged, is_waiting_file}
+use Rattle.index_file.specs.Opening.{CanBeOpened, IsDamaged}
 use Rattle.term_search.specs.declared.answer.Kind.{Kind}
 use Rattle.term_search.specs.declared.answer.Kind.TheVariants.{Slop, Regex}
 use Rattle.term_search.specs.declared.answer.SearchError.{SearchError}
@@ -55,7 +55,6 @@ pub record IsCompressed (file : List ℕ) (place : ℕ) : Type 0 where
 abbrev pub SaysOfFile : Outcome → Option (List ℕ) → Type 0
 SaysOfFile Done file = IfSome file CanBeOpened
 SaysOfFile OutFault file = IfSome file CanBeOpened
-SaysOfFile NotYet file = IfSome file (λ bytes. is_waiting_file bytes ≡ true)
 SaysOfFile (Version version) file = IfSome file (λ bytes. IsOfVersion bytes version)
 SaysOfFile Corrupt file = IfSome file IsDamaged
 SaysOfFile (Compressed place) file = IfSome file (λ bytes. IsCompressed bytes place)

@@ -32,7 +32,7 @@ use Rattle.index_reading.specs.Opened.{header_of, postings_in, postings_told}
 use Rattle.index_reading.specs.LookUp.{FetchesParts, FetchesNumbers, numbers_length}
 use Rattle.index_reading.proofs.Places.{bytes-within}
 use Rattle.term_search.specs.declared.answer.SearchError.{SearchError}
-use Rattle.term_search.specs.declared.answer.SearchError.TheVariants.{Memory, NotYet, Version, Corrupt, Compressed, Read}
+use Rattle.term_search.specs.declared.answer.SearchError.TheVariants.{Memory, Version, Corrupt, Compressed, Read}
 use Rattle.term_search.specs.Members.{IsAsked, asked_of, error_of_index, lookup_of, lookups_cost}
 use Rattle.term_search.proofs.Equations.{one_more}
 use Rattle.term_search.proofs.Posted.{same_is}
@@ -152,7 +152,6 @@ read_alone errors.Read h = refl
 read_alone errors.Corrupt h = (let apart : Corrupt ≡ Read = h in cc)
 read_alone (errors.Compressed place) h = (let apart : Compressed place ≡ Read = h in cc)
 read_alone (errors.Version version) h = (let apart : Version version ≡ Read = h in cc)
-read_alone errors.NotYet h = (let apart : NotYet ≡ Read = h in cc)
 
 -- a fault is named only where the index named one
 abbrev failed : (T : Type 0) → IndexError → Result T IndexError

@@ -73,7 +73,6 @@ error_of_index errors.Read = Read
 error_of_index errors.Corrupt = Corrupt
 error_of_index (errors.Compressed place) = Compressed place
 error_of_index (errors.Version version) = Version version
-error_of_index errors.NotYet = NotYet
 
 -- a compressed block stands at the place, where the contents are told
 abbrev pub NamesBlock : Option (List ℕ) → ℕ → Type 0

@@ -13,7 +13,7 @@ use Rattle.printed_queries.specs.Satisfies.{satisfies}
 use Rattle.printed_queries.specs.Meaning.{means}
 use Rattle.printed_queries.specs.Law.{IsPrinted, AnswersPrinted, satisfying}
 use Rattle.index_file.specs.IndexFile.{table_of, IsIndexOf}
-use Rattle.index_file.specs.Opening.{CanBeOpened, IsDamaged, is_waiting_file}
+use Rattle.index_file.specs.Opening.{CanBeOpened, IsDamaged}
 use Rattle.term_search.specs.Search.{units, asked, cost}
 use Rattle.term_search.specs.Leaves.{first_unsupported, IsSupported, has_waiting_leaf, IsReady}
 use Rattle.term_search.specs.declared.answer.Kind.{Kind}
@@ -37,6 +37,10 @@ pub record IsSearched (query : List ℕ) (tree : UserInputAst) : Type 0 where
 abbrev pub CanBeSearched : List ℕ → Type 0
 CanBeSearched query = (tree : UserInputAst) × IsSearched query tree
 
+-- the query is a tree with a leaf that is still to be learned
+abbrev pub IsOfLater : List ℕ → Type 0
+IsOfLater query = (tree : UserInputAst) × IsTaken query tree × (has_waiting_leaf tree ≡ true)
+
 -- the query is a tree whose first leaf that no search takes is of this kind
 abbrev pub IsUnsupported : List ℕ → Kind → Type 0
 IsUnsupported query kind = (tree : UserInputAst) × (tree_of query ≡ grammar.Tree tree) × (first_unsupported tree ≡ Some kind)
@@ -48,7 +52,7 @@ AnswersQuery query (Err Memory) = ⊤
 AnswersQuery query (Err (Query error)) = tree_of query ≡ grammar.Refused
 AnswersQuery query (Err TooDeep) = tree_of query ≡ grammar.TooDeep
 AnswersQuery query (Err (Unsupported kind)) = IsUnsupported query kind
-AnswersQuery query (Err NotYet) = (tree : UserInputAst) × IsTaken query tree
+AnswersQuery query (Err NotYet) = IsOfLater query
 AnswersQuery query (Err (Version version)) = CanBeSearched query
 AnswersQuery query (Err Corrupt) = CanBeSearched query
 AnswersQuery query (Err (Compressed place)) = CanBeSearched query
@@ -61,7 +65,7 @@ ReadsQuery query (Err Memory) = ⊤
 ReadsQuery query (Err (Query error)) = tree_of query ≡ grammar.Refused
 ReadsQuery query (Err TooDeep) = tree_of query ≡ grammar.TooDeep
 ReadsQuery query (Err (Unsupported kind)) = IsUnsupported query kind
-ReadsQuery query (Err NotYet) = (tree : UserInputAst) × IsTaken query tree × (has_waiting_leaf tree ≡ true)
+ReadsQuery query (Err NotYet) = IsOfLater query
 ReadsQuery query (Err (Version version)) = ⊥
 ReadsQuery query (Err Corrupt) = ⊥
 ReadsQuery query (Err (Compressed place)) = ⊥
@@ -85,14 +89,9 @@ pub record FindsDocuments (file query default : List ℕ) (answer : Answer) : Ty
   pub satisfying : (docs : List Doc) → IsIndexOf file docs → answer.ids ≡ satisfying docs answer.tree default
   pub meaning : (docs : List Doc) → IsIndexOf file docs → AnswersPrinted docs query answer.ids
 
--- the query's tree has a leaf that is still to be learned, or the file is of a kind that is
-abbrev pub IsOfLater : List ℕ → List ℕ → Type 0
-IsOfLater file query = ((tree : UserInputAst) × IsTaken query tree × (has_waiting_leaf tree ≡ true)) ⊎ (is_waiting_file file ≡ true)
-
 -- What an answer tells of its file.
 abbrev pub AnswersFile : List ℕ → List ℕ → List ℕ → Result Answer SearchError → Type 0
 AnswersFile file query default (Ok answer) = FindsDocuments file query default answer
-AnswersFile file query default (Err NotYet) = IsOfLater file query
 AnswersFile file query default (Err (Version version)) = (version_of file ≡ Some version) × (is_known version ≡ false)
 AnswersFile file query default (Err Corrupt) = IsDamaged file
 AnswersFile file query default (Err (Compressed place)) = IsDamaged file × (is_compressed_at place file ≡ true)
@@ -106,7 +105,6 @@ AnswersTold (Some file) query default result = AnswersFile file query default re
 -- what the numbers that were found for a tree tell of the file
 abbrev pub FindsNumbers : List ℕ → UserInputAst → List ℕ → Result (List ℕ) SearchError → Type 0
 FindsNumbers file tree default (Ok ids) = CanBeOpened file × ((docs : List Doc) → IsIndexOf file docs → ids ≡ satisfying docs tree default)
-FindsNumbers file tree default (Err NotYet) = (has_waiting_leaf tree ≡ true) ⊎ (is_waiting_file file ≡ true)
 FindsNumbers file tree default (Err (Version version)) = (version_of file ≡ Some version) × (is_known version ≡ false)
 FindsNumbers file tree default (Err Corrupt) = IsDamaged file
 FindsNumbers file tree default (Err (Compressed place)) = IsDamaged file × (is_compressed_at place file ≡ true)
@@ -116,8 +114,9 @@ abbrev pub FindsNumbersTold : Option (List ℕ) → UserInputAst → List ℕ �
 FindsNumbersTold None tree default result = ⊤
 FindsNumbersTold (Some file) tree default result = FindsNumbers file tree default result
 
--- no refusal of a query
+-- no refusal of a query, and not for a leaf that is still to be learned
 abbrev pub IsOfFile : SearchError → Type 0
+IsOfFile NotYet = ⊥
 IsOfFile (Query error) = ⊥
 IsOfFile TooDeep = ⊥
 IsOfFile (Unsupported kind) = ⊥

@@ -34,7 +34,7 @@ pub enum SearchError {
     /// The query's first leaf that no search takes is of this kind.
     #[error("unsupported {}", match .0 {Kind::Slop => "slop", Kind::Regex => "regex"})]
     Unsupported(Kind),
-    /// A prefix, a range or the existence of a field; a table of several blocks, or one of version 2 with keys.
+    /// The query's tree has a prefix, a range or the existence of a field.
     #[error("searches of this kind can't be made yet")]
     NotYet,
     /// The file ends with this number, where 2 or 3 belongs.
@@ -74,7 +74,6 @@ impl From<IndexError> for SearchError {
             IndexError::Corrupt => SearchError::Corrupt,
             IndexError::Compressed(place) => SearchError::Compressed(place),
             IndexError::Version(version) => SearchError::Version(version),
-            IndexError::NotYet => SearchError::NotYet,
         }
     }
 }

@@ -4,7 +4,7 @@ ghost use Rattle.owned_bytes.specs.Outside.{LeavesFile};
 ghost use Rattle.index_reading.specs.Opened.{LiesIn};
 ghost use Rattle.printed_queries.specs.Satisfies.{satisfies};
 ghost use Rattle.term_search.specs.Search.{asked, lookups_of};
-ghost use Rattle.term_search.specs.Leaves.{has_waiting_leaf};
+ghost use Rattle.term_search.specs.Leaves.{has_waiting_leaf, IsReady};
 ghost use Rattle.term_search.specs.Members.{Finds, Asks, IsSearchError};
 ghost use Rattle.term_search.specs.Searching.{AnswersQuery, AnswersTold, AnswersExpression, CanBeSearched, IsWhole, IsAnsweredOrRead, IsDamagedOrMemory, ReadsQuery, FindsNumbersTold, IsOfFile, ReadsFor, Fetches, FetchesTree};
 
@@ -77,6 +77,7 @@ fn find_numbers<H: FileHandle>(
     default: &str,
     tree: &UserInputAst,
 ) -> Result<Ids, SearchError>
+    requires { IsReady tree.now }
     ensures told { FindsNumbersTold (H.state file.old).contents tree.now default.now result }
     ensures error { IfErr result IsOfFile }
     ensures short { (H.state file.old).size < 4 → result ≡ Err SearchError.Corrupt }

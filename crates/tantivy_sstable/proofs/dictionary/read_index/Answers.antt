@@ -1,6 +1,5 @@
 use Rattle.std.proofs.Common.{◌∙◌, ◌-◌, ap, arith, subst, List, ℕ}
 use Rattle.common_wire.specs.Slices.{Span, span_len, part_of}
-use Rattle.sstable_index.specs.Reading.{ReadsIndex}
 use Rattle.tantivy_sstable.proofs.Opens.{index-told, unread-index}
 use Rattle.tantivy_sstable.proofs.FileLaws.{part-read, failed-by, not_read, reads-whole}
 use Rattle.tantivy_sstable.proofs.dictionary.read_index.Goals as goal
@@ -11,7 +10,7 @@ returns-in-Err-clause-told g c = unread-index (g.H.FileHandle.state c.args.handl
 pub returns-in-Ok-clause-told : goal.returns-in-Ok-clause-told
 returns-in-Ok-clause-told g c =
     index-told (g.H.FileHandle.state c.args.handle.now) c.args.file c.slice-part.result c.in-Ok.bytes c.args.footer.now c.load.result (g.met.H.FileHandle.contents_len c.args.handle.now) c.requires.within
-    c.requires.fits (c.slice-part.ensures ∙ ap (λ n. part_of c.args.file c.args.footer.now.index_offset (n - 20)) c.len.ensures) c.in-Ok.ensures.part (subst (λ (l : List ℕ). ReadsIndex c.args.footer.now l c.load.result) c.as_slice.ensures c.load.ensures)
+    c.requires.fits (c.slice-part.ensures ∙ ap (λ n. part_of c.args.file c.args.footer.now.index_offset (n - 20)) c.len.ensures) c.in-Ok.ensures.part c.load.ensures
 
 pub returns-in-Ok-clause-reads : goal.returns-in-Ok-clause-reads
 returns-in-Ok-clause-reads g c =

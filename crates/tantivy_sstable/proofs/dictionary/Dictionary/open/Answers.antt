@@ -23,7 +23,7 @@ returns-in-Err-clause-reads g c =
 
 pub returns-in-Err-read_index-clause-opened : goal.returns-in-Err-read_index-clause-opened
 returns-in-Err-read_index-clause-opened g c =
-    opens-index g.S.ValueReader.ValueReader.codec (g.H.FileHandle.state c.args.handle.now).contents c.args.file c.in-Ok.footer c.in-Err-read_index.e c.in-Ok.ensures.told
+    opens-index g.S.ValueReader.ValueReader.codec (g.H.FileHandle.state c.args.handle.now).contents c.args.file c.in-Ok.footer c.in-Err-read_index.e (omega (arith, c.requires, g.met.H.FileHandle.contents_len c.args.handle.now)) c.in-Ok.ensures.few c.in-Ok.ensures.told
     (subst (λ (o : Option (List ℕ)). TellsAt o c.args.file (ReadsIndexAt c.in-Ok.footer (Err c.in-Err-read_index.e))) c.in-Ok.ensures.reads.leaves.contents c.in-Err-read_index.ensures.told)
 
 pub returns-in-Err-read_index-clause-reads : goal.returns-in-Err-read_index-clause-reads
